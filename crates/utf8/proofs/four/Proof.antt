@@ -1,0 +1,20 @@
+-- `utf8::four` meets its contract. Assumes nothing.
+use Rattle.utf8.proofs.Rules.{chars}
+use Rattle.utf8.proofs.four.Statement.{statement}
+use Rattle.utf8.proofs.four.Tie as tie
+
+pub four-spec : {M : Type 1} → statement M
+four-spec =
+    tie.close
+    (tie.spec
+    (λ c. search chars)
+    (λ c κs. search chars)
+    (λ c. search chars)
+    (λ c κs. search chars)
+    (λ c. search chars)
+    (λ c κs. search chars)
+    (λ c. search chars)
+    (λ c κs. search chars)
+    (λ c. search chars)
+    (λ c κs. search chars)
+    (λ c. search chars))
