@@ -1,0 +1,26 @@
+-- A tree that lies in order: each value stands between the ends of what holds it, and after what stands before it. Assumes nothing: these are definitions.
+use Prim.Native.Nat.{ℕ, _+_, _≤_, _<_}
+use mathlib.Core.Bool.{Bool}
+use mathlib.Core.List.{List}
+use Rattle.json.specs.Tree.{Json, Items, _▸_, Members, member, Name}
+use Rattle.json.specs.Tree as tree
+
+mutual
+  -- the value v stands from p up to e, and so does all that it holds, in order
+  pub data Spans : Json → ℕ → ℕ → Type 0 where
+    null : {p e : ℕ} → p < e → Spans (tree.null p e) p e
+    bool : {p e : ℕ} {b : Bool} → p < e → Spans (tree.bool p e b) p e
+    num : {p e : ℕ} {raw : List ℕ} → p < e → Spans (tree.num p e raw) p e
+    str : {p e : ℕ} {raw : List ℕ} → p + 1 < e → Spans (tree.str p e raw) p e
+    arr : {p e b : ℕ} {vs : Items} → Row vs (p + 1) b → b < e → Spans (tree.arr p e vs) p e
+    obj : {p e b : ℕ} {ms : Members} → Rows ms (p + 1) b → b < e → Spans (tree.obj p e ms) p e
+
+  -- elements stand from a up to b, one after the other
+  pub data Row : Items → ℕ → ℕ → Type 0 where
+    end : {a b : ℕ} → a ≤ b → Row tree.none a b
+    next : {a p e b : ℕ} {v : Json} {vs : Items} → a ≤ p → Spans v p e → Row vs e b → Row (v ▸ vs) a b
+
+  -- members stand from a up to b, one after the other, the name of each before its value
+  pub data Rows : Members → ℕ → ℕ → Type 0 where
+    last : {a b : ℕ} → a ≤ b → Rows tree.empty a b
+    field : {a p e b : ℕ} {k : Name} {v : Json} {ms : Members} → a ≤ k .place → k .place + 1 < k .end → k .end < p → Spans v p e → Rows ms e b → Rows (member k v ms) a b

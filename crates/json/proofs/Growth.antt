@@ -1,0 +1,452 @@
+-- Values and containers: what holds for every stack that the levels left allow, and the words that are written. Assumes nothing.
+use mathlib.Core.Path.{_≡_, refl, sym, _∙_}
+use mathlib.Core.Logic.{_⊎_, inl, inr}
+use mathlib.Core.List.{List, [], _∷_}
+use Prim.Native.Nat.{ℕ, _+_, _-_, _*_, _≤_, _<_}
+use native.Mathlib.Nat.{add-zero}
+use native.Mathlib.Omega.{arith}
+use lib.ListN.{length, getD}
+use lib.Dec.{T}
+use denote.Enum.Declared.{tagOf}
+use Rattle.json.specs.Tree.{Json, Items, _◂_, Members, with, Name}
+use Rattle.json.specs.Tree as tree
+use Rattle.json.specs.Machine.{Frame, array, object, Mode, step, go, dead, finish, bad, tooDeep, reads, read, isBlank}
+use Rattle.json.specs.Machine.Mode.{want, first, name0, name1, got}
+use Rattle.json.specs.Table.{size, sizes, widths, Sub, arr, obj, Subs, nil, Fields, last}
+use Rattle.json.specs.Says.{from, Skips, blanks, Fits, Wrote, Plain, Ready, Opened, Read, Told, Named, Names, Membered, Member, Atom}
+use Rattle.json.specs.Parse.{Tells}
+use Rattle.json.specs.Laws.{sizes-◂, widths-with, subs-◂, fields-with, same-subs, same-fields, same-quoted}
+use Rattle.json.specs.Steps.{open-array, open-object, deep-array, deep-object, first-close, first-else, name0-close, name0-else, array-comma, array-close, array-no, object-comma, object-close, object-no, got-end}
+use Rattle.json.specs.declared.Scan.{Scan}
+use Rattle.json.specs.declared.Scan.the-variants as scan
+use Rattle.json.specs.declared.Walk.{Walk}
+use Rattle.json.specs.declared.Walk.the-variants as walk
+use Rattle.json.specs.declared.Parsed.the-variants as parsed
+use Rattle.json.proofs.Walk.{the-type}
+use Rattle.json.proofs.Moves.{at-end, moves, dies, deepens, alike, short}
+use Rattle.json.proofs.Leaves.{words-of}
+
+-- what the code knows in the else of `let Walk::Read(e, k) = r else { .. }`
+abbrev pub NoRead : Walk → Type 0
+NoRead r = (tagOf the-type r ≡ 1) ⊎ (tagOf the-type r ≡ 2)
+
+-- what the call told of a value that was read
+pub told-read : {x t₀ t : List ℕ} {m : Mode} {at levels most n e k : ℕ} (r : Walk) → Told x t₀ t m at levels most n r → r ≡ walk.Read e k → Read x t₀ t m at levels most n e k
+unfolding Told
+told-read r h q = rw q at h
+
+-- what is told at one state is told at a state that comes to it
+told-from : (x t₀ t : List ℕ) (m m′ : Mode) (at at′ levels levels′ most most′ n : ℕ) (r : Walk)
+    → ((ks : List Frame) → length ks + levels ≡ most → from x m ks at ≡ from x m′ ks at′)
+    → ((i : ℕ) → i + levels ≡ most → i + levels′ ≡ most′) → at ≤ at′ → levels + most′ ≤ levels′ + most
+    → Told x t₀ t m′ at′ levels′ most′ n r → Told x t₀ t m at levels most n r
+unfolding Told
+told-from x t₀ t m m′ at at′ levels levels′ most most′ n (walk.Read e k) f g l d h =
+    record { value = h .value; stands = h .stands; ends = h .ends; goes = λ ks z. f ks z ∙ h .goes ks (g (length ks) z); more = omega (arith, h .more); inside = h .inside; fits = omega (arith, h .fits); long = h .long; below = h .below }
+told-from x t₀ t m m′ at at′ levels levels′ most most′ n (walk.Bad q) f g l d h = λ ks z. f ks z ∙ h ks (g (length ks) z)
+told-from x t₀ t m m′ at at′ levels levels′ most most′ n (walk.Deep q) f g l d h = λ ks z. f ks z ∙ h ks (g (length ks) z)
+
+-- room for a node, whatever levels are left
+pub ready-node : {x t : List ℕ} {at levels n : ℕ} → Ready x t at levels 32 n → Ready x t at 0 32 n
+ready-node r = record { texts = r .texts; words = r .words; high = r .high; most32 = omega arith; fits = omega (arith, r .fits) }
+
+-- a value, after the blanks before it
+module _ {x : List ℕ} {at i : ℕ} (k : Skips blanks isBlank x at i) where
+  pub value-out : (t₀ t : List ℕ) (levels n : ℕ) → length x ≤ i → Told x t₀ t want at levels 32 n (walk.Bad i)
+  unfolding Told
+  value-out t₀ t levels n l = λ ks z. k .stays .same want tt ks ∙ short x want ks i refl l
+
+  pub value-atom : (t₀ t : List ℕ) (levels n : ℕ) (r : Walk) → Ready x t₀ at levels 32 n → Atom x t₀ t i n r → Told x t₀ t want at levels 32 n r
+  unfolding Told Atom
+  value-atom t₀ t levels n (walk.Read e j) g h =
+      let f = h .leaf in
+      let w = h .wrote in
+      record {
+        value = f .value;
+        stands = f .stands t n (rw (h .width) (w .placed));
+        ends = rw (f .width) (h .width);
+        goes = λ ks z. k .stays .same want tt ks ∙ f .goes ks;
+        more = omega (arith, k .stays .low, f .more);
+        inside = f .inside;
+        fits = omega (arith, g .fits, k .stays .low, f .more, h .width);
+        long = w .long;
+        below = w .below;
+      }
+  value-atom t₀ t levels n (walk.Bad q) g h = λ ks z. k .stays .same want tt ks ∙ h ks
+  value-atom t₀ t levels n (walk.Deep q) g h = λ ks z. k .stays .same want tt ks ∙ h ks
+
+  pub atom-asks : (t : List ℕ) (levels n : ℕ) → i < length x → (getD x i 0 ≡ 91 → ⊥) → (getD x i 0 ≡ 123 → ⊥) → Ready x t at levels 32 n → (Plain x i) × (Ready x t i 0 32 n)
+  atom-asks t levels n l a o r =
+      let p : Plain x i = record { there = l; no-blank = k .stop l; no-array = a; no-object = o } in
+      (p, record { texts = r .texts; words = r .words; high = omega arith; most32 = omega arith; fits = omega (arith, r .fits, k .stays .low) })
+
+  module _ (t₀ : List ℕ) (levels n : ℕ) (l : i < length x) where
+    pub value-deep-array : (t : List ℕ) → getD x i 0 ≡ 91 → levels ≡ 0 → Told x t₀ t want at levels 32 n (walk.Deep i)
+    unfolding Told
+    value-deep-array t b e = λ ks z. k .stays .same want tt ks ∙ deepens x want ks i l (deep-array 32 x i _ b ks (omega arith))
+
+    pub value-deep-object : (t : List ℕ) → getD x i 0 ≡ 123 → levels ≡ 0 → Told x t₀ t want at levels 32 n (walk.Deep i)
+    unfolding Told
+    value-deep-object t b e = λ ks z. k .stays .same want tt ks ∙ deepens x want ks i l (deep-object 32 x i _ b ks (omega arith))
+
+    pub opens : (b : ℕ) → getD x i 0 ≡ b → (levels ≡ 0 → ⊥) → Ready x t₀ at levels 32 n → Opened b x t₀ i (levels - 1) n
+    opens b e z r =
+        let f = r .fits in
+        let lo = k .stays .low in
+        let some : 0 < levels = omega arith in
+        let g : Ready x t₀ i (levels - 1) 31 n = record { texts = r .texts; words = r .words; high = omega arith; most32 = omega arith; fits = omega arith } in
+        record { ready = g; there = l; byte = e }
+
+    pub value-array : (t : List ℕ) (r : Walk) → getD x i 0 ≡ 91 → (levels ≡ 0 → ⊥) → Told x t₀ t (first i) (i + 1) (levels - 1) 31 n r → Told x t₀ t want at levels 32 n r
+    value-array t r b z h =
+        let lo = k .stays .low in
+        told-from x t₀ t want (first i) at (i + 1) levels (levels - 1) 32 31 n r (λ ks e. k .stays .same want tt ks ∙ moves x want ks i (first i) ks l (open-array 32 x i _ b ks (omega arith))) (λ j e. omega arith) (omega arith) (omega arith) h
+
+    pub value-object : (t : List ℕ) (r : Walk) → getD x i 0 ≡ 123 → (levels ≡ 0 → ⊥) → Told x t₀ t (name0 i) (i + 1) (levels - 1) 31 n r → Told x t₀ t want at levels 32 n r
+    value-object t r b z h =
+        let lo = k .stays .low in
+        told-from x t₀ t want (name0 i) at (i + 1) levels (levels - 1) 32 31 n r (λ ks e. k .stays .same want tt ks ∙ moves x want ks i (name0 i) ks l (open-object 32 x i _ b ks (omega arith))) (λ j e. omega arith) (omega arith) (omega arith) h
+
+-- Inside a container that the byte b at the offset at opened: from the mode m after it, the machine comes to the mode m′ at i, with f of the stack open;
+-- k is the first free word, with slack s; the words before the container's are as they were in t₀
+pub record Level (b : ℕ) (m : Mode) (x t₀ t : List ℕ) (at levels n i k : ℕ) (m′ : Mode) (f : List Frame → List Frame) (s : ℕ) : Type 0 where
+  pub opened : Opened b x t₀ at levels n
+  pub past : at < i
+  pub high : i ≤ length x
+  pub after : n + 3 ≤ k
+  pub fits : 2 * k + 3 * levels ≤ 3 * i + s
+  pub long : length t ≡ length t₀
+  pub below : (j : ℕ) → j < n → getD t j 0 ≡ getD t₀ j 0
+  pub goes : (ks : List Frame) → length ks + levels ≡ 31 → from x m ks (at + 1) ≡ from x m′ (f ks) i
+
+module _ {b : ℕ} {x t₀ : List ℕ} {at levels n i : ℕ} (o : Opened b x t₀ at levels n) (k : Skips blanks isBlank x (at + 1) i) where
+  -- a container's first byte that is no blank
+  pub enters : (m : Mode) → T (blanks m) → Level b m x t₀ t₀ at levels n i (n + 3) m (λ ks. ks) 96
+  enters m h =
+      let r = o .ready in
+      record { opened = o; past = omega (arith, k .stays .low); high = k .stays .high; after = omega arith; fits = omega (arith, r .fits, k .stays .low); long = refl; below = λ j l. refl; goes = λ ks z. k .stays .same m h ks }
+
+module _ {b : ℕ} {m : Mode} {x t₀ t : List ℕ} {at levels n i k : ℕ} {m′ : Mode} {f : List Frame → List Frame} {s : ℕ} (l : Level b m x t₀ t at levels n i k m′ f s) where
+  level-out : (t′ : List ℕ) → length x ≤ i → ((ks : List Frame) → finish 32 x m′ (f ks) i ≡ bad i) → Told x t₀ t′ m (at + 1) levels 31 n (walk.Bad i)
+  unfolding Told
+  level-out t′ h e = λ ks z. l .goes ks z ∙ at-end x m′ (f ks) i h ∙ e ks
+
+  level-dies : (t′ : List ℕ) → i < length x → ((ks : List Frame) → step 32 x m′ (f ks) i (getD x i 0) ≡ dead) → Told x t₀ t′ m (at + 1) levels 31 n (walk.Bad i)
+  unfolding Told
+  level-dies t′ h e = λ ks z. l .goes ks z ∙ dies x m′ (f ks) i h (e ks)
+
+  level-blank : {j : ℕ} → T (blanks m′) → Skips blanks isBlank x i j → Level b m x t₀ t at levels n j k m′ f s
+  level-blank h q = record { opened = l .opened; past = omega (arith, l .past, q .stays .low); high = q .stays .high; after = l .after; fits = omega (arith, l .fits, q .stays .low); long = l .long; below = l .below; goes = λ ks z. l .goes ks z ∙ q .stays .same m′ h (f ks) }
+
+  level-looks : (m″ : Mode) (g : List Frame → List Frame) → i < length x → ((ks : List Frame) → step 32 x m′ (f ks) i (getD x i 0) ≡ step 32 x m″ (g ks) i (getD x i 0)) → Level b m x t₀ t at levels n i k m″ g s
+  level-looks m″ g h e = record { opened = l .opened; past = l .past; high = l .high; after = l .after; fits = l .fits; long = l .long; below = l .below; goes = λ ks z. l .goes ks z ∙ alike x m′ (f ks) i m″ (g ks) h (e ks) }
+
+  level-ready : s ≤ 96 → Ready x t i levels 32 k
+  level-ready h = let r = l .opened .ready in record { texts = r .texts; words = omega (arith, r .words, l .long); high = l .high; most32 = omega arith; fits = omega (arith, l .fits) }
+
+  level-fits : s ≤ 99 → i < length x → Fits t n at (i + 1) k
+  level-fits e h =
+      let r = l .opened .ready in
+      let z = l .opened .there in
+      record { room = omega (arith, r .words, l .long, l .fits, l .after); start = omega (arith, r .texts); end = omega (arith, r .texts); next = omega (arith, r .texts, l .fits) }
+
+  level-closes : {t′ : List ℕ} {v : Json} → s ≤ 99 → i < length x → ((ks : List Frame) → step 32 x m′ (f ks) i (getD x i 0) ≡ go (got v) ks) → Wrote t t′ n at (i + 1) k → Sub x t′ n v → n + size v ≡ k → Told x t₀ t′ m (at + 1) levels 31 n (walk.Read (i + 1) k)
+  unfolding Told
+  level-closes {t′} {v} d h e w u q = record {
+    value = v;
+    stands = u;
+    ends = q;
+    goes = λ ks z. l .goes ks z ∙ moves x m′ (f ks) i (got v) ks h (e ks);
+    more = omega (arith, l .past);
+    inside = omega arith;
+    fits = omega (arith, l .fits);
+    long = w .long ∙ l .long;
+    below = λ j z. w .below j z ∙ l .below j z;
+  }
+
+  level-byte : (m″ : Mode) (g : List Frame → List Frame) → s ≤ 99 → i < length x → ((ks : List Frame) → step 32 x m′ (f ks) i (getD x i 0) ≡ go m″ (g ks)) → Level b m x t₀ t at levels n (i + 1) k m″ g 96
+  level-byte m″ g d h e = record { opened = l .opened; past = omega (arith, l .past); high = omega arith; after = l .after; fits = omega (arith, l .fits); long = l .long; below = l .below; goes = λ ks z. l .goes ks z ∙ moves x m′ (f ks) i m″ (g ks) h (e ks) }
+
+-- a value inside
+module _ {b : ℕ} {m : Mode} {x t₀ t₁ : List ℕ} {at levels n i k : ℕ} {f : List Frame → List Frame} (t₂ : List ℕ) (l : Level b m x t₀ t₁ at levels n i k want f 96) (o : (ks : List Frame) → length (f ks) ≡ length ks + 1) where
+  level-value : {e k′ : ℕ} (r : Read x t₁ t₂ want i levels 32 k e k′) → Level b m x t₀ t₂ at levels n e k′ (got (r .value)) f 99
+  level-value r = record {
+    opened = l .opened;
+    past = omega (arith, l .past, r .more);
+    high = r .inside;
+    after = omega (arith, l .after, r .ends);
+    fits = omega (arith, r .fits);
+    long = r .long ∙ l .long;
+    below = λ j z. r .below j (omega (arith, l .after)) ∙ l .below j z;
+    goes = λ ks z. l .goes ks z ∙ r .goes (f ks) (omega (arith, o ks));
+  }
+
+  level-stuck : (r : Walk) → Told x t₁ t₂ want i levels 32 k r → NoRead r → Told x t₀ t₂ m (at + 1) levels 31 n r
+  unfolding Told
+  level-stuck (walk.Read e k′) h (inl z) = absurd (omega arith)
+  level-stuck (walk.Read e k′) h (inr z) = absurd (omega arith)
+  level-stuck (walk.Bad q) h d = λ ks z. l .goes ks z ∙ h (f ks) (omega (arith, o ks))
+  level-stuck (walk.Deep q) h d = λ ks z. l .goes ks z ∙ h (f ks) (omega (arith, o ks))
+
+-- an array: its next element is to come at i; or its last one was read, and the byte at i is no blank
+pub record Elements (x t₀ t : List ℕ) (at levels n i k : ℕ) : Type 0 where
+  pub elements : Items
+  pub level : Level 91 (first at) x t₀ t at levels n i k want (λ ks. array at elements ∷ ks) 96
+  pub stand : Subs x t (n + 3) elements
+  pub ends : (n + 3) + sizes elements ≡ k
+
+pub record Added (x t₀ t : List ℕ) (at levels n i k : ℕ) : Type 0 where
+  pub elements : Items
+  pub value : Json
+  pub level : Level 91 (first at) x t₀ t at levels n i k (got value) (λ ks. array at elements ∷ ks) 99
+  pub stand : Subs x t (n + 3) (elements ◂ value)
+  pub ends : (n + 3) + sizes (elements ◂ value) ≡ k
+
+module _ {x t₀ : List ℕ} {at levels n i : ℕ} (o : Opened 91 x t₀ at levels n) (k : Skips blanks isBlank x (at + 1) i) where
+  pub array-out : (t : List ℕ) → length x ≤ i → Told x t₀ t (first at) (at + 1) levels 31 n (walk.Bad i)
+  unfolding Told
+  array-out t h = λ ks z. k .stays .same (first at) tt ks ∙ short x (first at) ks i refl h
+
+  pub array-empty-fits : i < length x → Fits t₀ n at (i + 1) (n + 3)
+  array-empty-fits h = level-fits (enters o k (first at) tt) (omega arith) h
+
+  pub array-empty : (t : List ℕ) → i < length x → getD x i 0 ≡ 93 → Wrote t₀ t n at (i + 1) (n + 3) → Told x t₀ t (first at) (at + 1) levels 31 n (walk.Read (i + 1) (n + 3))
+  unfolding size sizes
+  array-empty t h b w =
+      let p = k .stays .low in
+      level-closes (enters o k (first at) tt) (omega arith) h (first-close 32 x i _ b at) w (arr (words-of (w .placed) (omega arith) (omega arith) (o .byte)) nil) refl
+
+  pub array-starts : i < length x → (getD x i 0 ≡ 93 → ⊥) → Elements x t₀ t₀ at levels n i (n + 3)
+  unfolding sizes
+  array-starts h c = record { elements = tree.none; level = level-looks (enters o k (first at) tt) want (λ ks. array at tree.none ∷ ks) h (first-else 32 x i _ (k .stop h) c at); stand = nil; ends = add-zero (n + 3) }
+
+module _ {x t₀ t₁ : List ℕ} {at levels n i k : ℕ} (g : Elements x t₀ t₁ at levels n i k) where
+  pub element-asks : Ready x t₁ i levels 32 k
+  element-asks = level-ready (g .level) (omega arith)
+
+  pub array-stuck : (t₂ : List ℕ) (r : Walk) → Told x t₁ t₂ want i levels 32 k r → NoRead r → Told x t₀ t₂ (first at) (at + 1) levels 31 n r
+  array-stuck t₂ r h d = level-stuck t₂ (g .level) (λ ks. omega arith) r h d
+
+  module _ {r : Walk} {e k′ : ℕ} (t₂ : List ℕ) (h : Told x t₁ t₂ want i levels 32 k r) (q : r ≡ walk.Read e k′) where
+    pub element-high : e ≤ length x
+    element-high = told-read r h q .inside
+
+    module _ {j : ℕ} (s : Skips blanks isBlank x e j) where
+      array-turn : Added x t₀ t₂ at levels n j k′
+      array-turn =
+          let v = told-read r h q in
+          record {
+            elements = g .elements;
+            value = v .value;
+            level = level-blank (level-value t₂ (g .level) (λ ks. omega arith) v) tt s;
+            stand = subs-◂ (same-subs (v .long) (g .stand) (λ y a z. v .below y (omega (arith, g .ends)))) (rw (g .ends) (v .stands));
+            ends = omega (arith, sizes-◂ (g .elements) (v .value), g .ends, v .ends);
+          }
+
+      pub element-low : i ≤ j
+      element-low = omega (arith, told-read r h q .more, s .stays .low)
+
+      pub array-short : length x ≤ j → Told x t₀ t₂ (first at) (at + 1) levels 31 n (walk.Bad j)
+      array-short h = level-out (array-turn .level) t₂ h (λ ks. refl)
+
+      pub array-wrong : j < length x → (getD x j 0 ≡ 44 → ⊥) → (getD x j 0 ≡ 93 → ⊥) → Told x t₀ t₂ (first at) (at + 1) levels 31 n (walk.Bad j)
+      array-wrong h c d = level-dies (array-turn .level) t₂ h (λ ks. array-no 32 x j _ _ _ _ ks (s .stop h) c d)
+
+      pub array-fits : j < length x → Fits t₂ n at (j + 1) k′
+      array-fits h = level-fits (array-turn .level) (omega arith) h
+
+      pub array-more : j < length x → getD x j 0 ≡ 44 → Elements x t₀ t₂ at levels n (j + 1) k′
+      array-more h b =
+          let a = array-turn in
+          record { elements = a .elements ◂ a .value; level = level-byte (a .level) want (λ ks. array at (a .elements ◂ a .value) ∷ ks) (omega arith) h (λ ks. array-comma 32 x j _ _ _ _ ks b); stand = a .stand; ends = a .ends }
+
+      pub array-closes : (t′ : List ℕ) → j < length x → getD x j 0 ≡ 93 → Wrote t₂ t′ n at (j + 1) k′ → Told x t₀ t′ (first at) (at + 1) levels 31 n (walk.Read (j + 1) k′)
+      unfolding size
+      array-closes t′ h b w =
+          let a = array-turn in
+          let l = a .level in
+          let q : n + (3 + sizes (a .elements ◂ a .value)) ≡ k′ = omega (arith, a .ends) in
+          level-closes l (omega arith) h (λ ks. array-close 32 x j _ _ _ _ ks b) w
+          (arr (rw q (words-of (w .placed) (omega (arith, l .past)) (omega arith) (l .opened .byte))) (same-subs (w .long) (a .stand) (λ y a z. w .above y (omega arith))))
+          q
+
+-- an object: a name is to come at i; or its last member was read, and the byte at i is no blank
+pub record Fielded (x t₀ t : List ℕ) (at levels n i k : ℕ) : Type 0 where
+  pub members : Members
+  pub level : Level 123 (name0 at) x t₀ t at levels n i k (name1 at members) (λ ks. ks) 96
+  pub stand : Fields x t (n + 3) members
+  pub ends : (n + 3) + widths members ≡ k
+
+pub record Held (x t₀ t : List ℕ) (at levels n i k : ℕ) : Type 0 where
+  pub members : Members
+  pub key : Name
+  pub value : Json
+  pub level : Level 123 (name0 at) x t₀ t at levels n i k (got value) (λ ks. object at members key ∷ ks) 99
+  pub stand : Fields x t (n + 3) (with members key value)
+  pub ends : (n + 3) + widths (with members key value) ≡ k
+
+module _ {x t₀ : List ℕ} {at levels n i : ℕ} (o : Opened 123 x t₀ at levels n) (k : Skips blanks isBlank x (at + 1) i) where
+  pub object-out : (t : List ℕ) → length x ≤ i → Told x t₀ t (name0 at) (at + 1) levels 31 n (walk.Bad i)
+  unfolding Told
+  object-out t h = λ ks z. k .stays .same (name0 at) tt ks ∙ short x (name0 at) ks i refl h
+
+  pub object-empty-fits : i < length x → Fits t₀ n at (i + 1) (n + 3)
+  object-empty-fits h = level-fits (enters o k (name0 at) tt) (omega arith) h
+
+  pub object-empty : (t : List ℕ) → i < length x → getD x i 0 ≡ 125 → Wrote t₀ t n at (i + 1) (n + 3) → Told x t₀ t (name0 at) (at + 1) levels 31 n (walk.Read (i + 1) (n + 3))
+  unfolding size widths
+  object-empty t h b w =
+      let p = k .stays .low in
+      level-closes (enters o k (name0 at) tt) (omega arith) h (name0-close 32 x i _ b at) w (obj (words-of (w .placed) (omega arith) (omega arith) (o .byte)) last) refl
+
+  pub object-starts : i < length x → (getD x i 0 ≡ 125 → ⊥) → Fielded x t₀ t₀ at levels n i (n + 3)
+  unfolding widths
+  object-starts h c = record { members = tree.empty; level = level-looks (enters o k (name0 at) tt) (name1 at tree.empty) (λ ks. ks) h (name0-else 32 x i _ (k .stop h) c at); stand = last; ends = add-zero (n + 3) }
+
+-- a member: its name and then its value
+module _ {x t₀ : List ℕ} (t₁ : List ℕ) {at levels n : ℕ} {r : Scan} (g : Ready x t₀ at levels 32 n) (h : Names x t₀ t₁ at n r) where
+  pub member-bad : (t : List ℕ) (q : ℕ) → r ≡ scan.Bad q → Member x t₀ t at levels n (walk.Bad q)
+  unfolding Member Names
+  member-bad t q e = let f : (p : ℕ) (ms : Members) (ks : List Frame) → from x (name1 p ms) ks at ≡ bad q = rw e at h in λ p ms ks z. f p ms ks
+
+  module _ {v : ℕ} (q : r ≡ scan.End v) where
+    called : Named x t₀ t₁ at n v
+    unfolding Names
+    called = rw q at h
+
+    pub member-asks : Ready x t₁ v levels 32 (n + 3)
+    member-asks = let w = called in record { texts = g .texts; words = omega (arith, g .words, w .long); high = w .inside; most32 = omega arith; fits = omega (arith, g .fits, w .more) }
+
+    pub member-read : (t₂ : List ℕ) (r′ : Walk) → Told x t₁ t₂ want v levels 32 (n + 3) r′ → Member x t₀ t₂ at levels n r′
+    unfolding Told Member
+    member-read t₂ (walk.Read e k) u =
+        let w = called in
+        record {
+          key = w .key;
+          value = u .value;
+          quoted = same-quoted (u .long) (λ y a z. u .below y (omega arith)) (w .stands);
+          stands = u .stands;
+          ends = omega (arith, u .ends);
+          goes = λ p ms ks z. w .goes p ms ks ∙ u .goes (object p ms (w .key) ∷ ks) (omega arith);
+          more = omega (arith, w .more, u .more);
+          inside = u .inside;
+          fits = omega (arith, u .fits);
+          long = u .long ∙ w .long;
+          below = λ y z. u .below y (omega arith) ∙ w .below y z;
+        }
+    member-read t₂ (walk.Bad b) u = λ p ms ks z. called .goes p ms ks ∙ u (object p ms (called .key) ∷ ks) (omega arith)
+    member-read t₂ (walk.Deep b) u = λ p ms ks z. called .goes p ms ks ∙ u (object p ms (called .key) ∷ ks) (omega arith)
+
+member-of : {x t₀ t : List ℕ} {at levels n e k : ℕ} (r : Walk) → Member x t₀ t at levels n r → r ≡ walk.Read e k → Membered x t₀ t at levels n e k
+unfolding Member
+member-of r h q = rw q at h
+
+module _ {x t₀ t₁ : List ℕ} {at levels n i k : ℕ} (g : Fielded x t₀ t₁ at levels n i k) where
+  pub name-asks : Ready x t₁ i levels 32 k
+  name-asks = level-ready (g .level) (omega arith)
+
+  pub object-stuck : (t₂ : List ℕ) (r : Walk) → Member x t₁ t₂ i levels k r → NoRead r → Told x t₀ t₂ (name0 at) (at + 1) levels 31 n r
+  unfolding Told Member
+  object-stuck t₂ (walk.Read e k′) h (inl z) = absurd (omega arith)
+  object-stuck t₂ (walk.Read e k′) h (inr z) = absurd (omega arith)
+  object-stuck t₂ (walk.Bad q) h d = λ ks z. g .level .goes ks z ∙ h at (g .members) ks z
+  object-stuck t₂ (walk.Deep q) h d = λ ks z. g .level .goes ks z ∙ h at (g .members) ks z
+
+  module _ {r : Walk} {e k′ : ℕ} (t₂ : List ℕ) (h : Member x t₁ t₂ i levels k r) (q : r ≡ walk.Read e k′) where
+    pub member-high : e ≤ length x
+    member-high = member-of r h q .inside
+
+    module _ {j : ℕ} (s : Skips blanks isBlank x e j) where
+      object-turn : Held x t₀ t₂ at levels n j k′
+      object-turn =
+          let v = member-of r h q in
+          let l = g .level in
+          let y : Level 123 (name0 at) x t₀ t₂ at levels n e k′ (got (v .value)) (λ ks. object at (g .members) (v .key) ∷ ks) 99 = record {
+            opened = l .opened;
+            past = omega (arith, l .past, v .more);
+            high = v .inside;
+            after = omega (arith, l .after, v .ends);
+            fits = omega (arith, v .fits);
+            long = v .long ∙ l .long;
+            below = λ j z. v .below j (omega (arith, l .after)) ∙ l .below j z;
+            goes = λ ks z. l .goes ks z ∙ v .goes at (g .members) ks z;
+          } in
+          record {
+            members = g .members;
+            key = v .key;
+            value = v .value;
+            level = level-blank y tt s;
+            stand = fields-with (same-fields (v .long) (g .stand) (λ y a z. v .below y (omega (arith, g .ends)))) (g .ends) (v .quoted) (v .stands);
+            ends = omega (arith, widths-with (g .members) (v .key) (v .value), g .ends, v .ends);
+          }
+
+      pub member-low : i ≤ j
+      member-low = omega (arith, member-of r h q .more, s .stays .low)
+
+      pub object-short : length x ≤ j → Told x t₀ t₂ (name0 at) (at + 1) levels 31 n (walk.Bad j)
+      object-short h = level-out (object-turn .level) t₂ h (λ ks. refl)
+
+      pub object-wrong : j < length x → (getD x j 0 ≡ 44 → ⊥) → (getD x j 0 ≡ 125 → ⊥) → Told x t₀ t₂ (name0 at) (at + 1) levels 31 n (walk.Bad j)
+      object-wrong h c d = level-dies (object-turn .level) t₂ h (λ ks. object-no 32 x j _ _ _ _ _ ks (s .stop h) c d)
+
+      pub object-fits : j < length x → Fits t₂ n at (j + 1) k′
+      object-fits h = level-fits (object-turn .level) (omega arith) h
+
+      pub object-more : j < length x → getD x j 0 ≡ 44 → Fielded x t₀ t₂ at levels n (j + 1) k′
+      object-more h b =
+          let a = object-turn in
+          record { members = with (a .members) (a .key) (a .value); level = level-byte (a .level) (name1 at (with (a .members) (a .key) (a .value))) (λ ks. ks) (omega arith) h (λ ks. object-comma 32 x j _ _ _ _ _ ks b); stand = a .stand; ends = a .ends }
+
+      pub object-closes : (t′ : List ℕ) → j < length x → getD x j 0 ≡ 125 → Wrote t₂ t′ n at (j + 1) k′ → Told x t₀ t′ (name0 at) (at + 1) levels 31 n (walk.Read (j + 1) k′)
+      unfolding size
+      object-closes t′ h b w =
+          let a = object-turn in
+          let l = a .level in
+          let q : n + (3 + widths (with (a .members) (a .key) (a .value))) ≡ k′ = omega (arith, a .ends) in
+          level-closes l (omega arith) h (λ ks. object-close 32 x j _ _ _ _ _ ks b) w
+          (obj (rw q (words-of (w .placed) (omega (arith, l .past)) (omega arith) (l .opened .byte))) (same-fields (w .long) (a .stand) (λ y a z. w .above y (omega arith))))
+          q
+
+-- the whole text
+from-start : (x : List ℕ) → from x want [] 0 ≡ read x
+unfolding from read
+from-start x = refl
+
+module _ (x t₀ : List ℕ) (short : length x ≤ 65535) (room : 3 * length x + 99 ≤ 2 * length t₀) where
+  pub parse-asks : Ready x t₀ 0 32 32 0
+  parse-asks = record { texts = short; words = room; high = omega arith; most32 = omega arith; fits = omega arith }
+
+  module _ (t : List ℕ) (r : Walk) (h : Told x t₀ t want 0 32 32 0 r) where
+    pub parse-bad : (q : ℕ) → r ≡ walk.Bad q → Tells x t₀ t (parsed.Bad q)
+    unfolding Tells Told
+    parse-bad q e = let f : (ks : List Frame) → length ks + 32 ≡ 32 → from x want ks 0 ≡ bad q = rw e at h in (short, sym (from-start x) ∙ f [] refl, room)
+
+    pub parse-deep : (q : ℕ) → r ≡ walk.Deep q → Tells x t₀ t (parsed.Deep q)
+    unfolding Tells Told
+    parse-deep q e = let f : (ks : List Frame) → length ks + 32 ≡ 32 → from x want ks 0 ≡ tooDeep q = rw e at h in (short, sym (from-start x) ∙ f [] refl, room)
+
+    module _ (e n j : ℕ) (q : r ≡ walk.Read e n) (k : Skips blanks isBlank x e j) where
+      pub parse-trailing : j < length x → Tells x t₀ t (parsed.Bad j)
+      unfolding Tells
+      parse-trailing l = let v = told-read r h q in (short, sym (from-start x) ∙ v .goes [] refl ∙ k .stays .same (got (v .value)) tt [] ∙ dies x (got (v .value)) [] j l (got-end 32 x j _ (k .stop l) (v .value)), room)
+
+      pub parse-whole : length x ≤ j → Tells x t₀ t (parsed.Nodes n)
+      unfolding Tells
+      parse-whole l =
+          let v = told-read r h q in
+          record { value = v .value; short = short; room = room; reads = sym (from-start x) ∙ v .goes [] refl ∙ k .stays .same (got (v .value)) tt [] ∙ at-end x (got (v .value)) [] j l; stands = v .stands; ends = omega (arith, v .ends); long = v .long }
+
+pub parse-long : (x t₀ t : List ℕ) → 65535 < length x → Tells x t₀ t parsed.Long
+unfolding Tells
+parse-long x t₀ t h = h
+
+pub parse-short : (x t₀ t : List ℕ) → length x ≤ 65535 → 2 * length t₀ < 3 * length x + 99 → Tells x t₀ t parsed.Short
+unfolding Tells
+parse-short x t₀ t h l = (h, l)
+
+-- where a whole text's value ends
+pub told-high : (x t₀ t : List ℕ) (m : Mode) (at levels most n : ℕ) (r : Walk) (e k : ℕ) → Told x t₀ t m at levels most n r → r ≡ walk.Read e k → e ≤ length x
+told-high x t₀ t m at levels most n r e k h q = told-read r h q .inside
+
+pub less : (n i j : ℕ) → i ≤ j → j < n → n - (j + 1) < n - i
+less n i j l h = omega arith

@@ -1,0 +1,213 @@
+-- Nodes that hold no other: what is written, and the values and names that it stands for. Assumes nothing.
+use mathlib.Core.Path.{_≡_, refl, _∙_}
+use mathlib.Core.Bool.{true, false}
+use mathlib.Core.Option.{some}
+use mathlib.Core.Option as option
+use mathlib.Core.List.{List, [], _∷_}
+use Prim.Native.Nat.{ℕ, _+_, _-_, _^_, _≤_, _<_}
+use native.Mathlib.Omega.{arith}
+use lib.ListN.{length, getD, set, length-set}
+use lib.Seq.{getD-set-same, getD-set-other, slice}
+use borrow.Author.Tests.{ne-eqb}
+use Rattle.utf8.specs.Ascii.{ascii}
+use Rattle.json.specs.Tree.{Json, Members}
+use Rattle.json.specs.Tree as tree
+use Rattle.json.specs.Machine.{Frame, Mode, value, step, go, bad, isBlank, isDigit}
+use Rattle.json.specs.Machine.Role.{name}
+use Rattle.json.specs.Machine.Mode.{want, name1, colon, neg, nought, int, chars}
+use Rattle.json.specs.Table.{size, Words, Quoted, isNumeric, Sub, null, bool, num, str}
+use Rattle.json.specs.Says.{from, Within, Reads, Skips, blanks, numbered, charsOf, closedOf, ReadsString, WordAt, literalOf, ReadsWord, Placed, Fits, Wrote, Leaf, Scalar, Ready, Atom, Names}
+use Rattle.json.specs.declared.Scan.{Scan}
+use Rattle.json.specs.declared.Scan.the-variants.{End, Bad}
+use Rattle.json.specs.declared.Walk.the-variants as walk
+use Rattle.json.specs.Steps.{want-quote, want-minus, want-0, want-digit, want-t, want-f, want-n, want-no, name-quote, name-no, colon-yes, colon-no}
+use Rattle.json.proofs.Bytes.{is-digit, under-digit, over-digit}
+use Rattle.json.proofs.Moves.{moves, dies, short}
+use Rattle.json.proofs.Parts.{NoEnd}
+
+-- three words are written at n
+pub three : (t₀ : List ℕ) (n u v w : ℕ) → n + 2 < length t₀ → Wrote t₀ (set (set (set t₀ n u) (n + 1) v) (n + 2) w) n u v w
+three t₀ n u v w h =
+    let t₁ = set t₀ n u in
+    let t₂ = set t₁ (n + 1) v in
+    let t₃ = set t₂ (n + 2) w in
+    let l₁ : length t₁ ≡ length t₀ = length-set t₀ n u in
+    let l₂ : length t₂ ≡ length t₁ = length-set t₁ (n + 1) v in
+    let l₃ : length t₃ ≡ length t₂ = length-set t₂ (n + 2) w in
+    let o₁ : (k : ℕ) → (k ≡ n → ⊥) → getD t₁ k 0 ≡ getD t₀ k 0 = λ k f. getD-set-other t₀ n k u 0 f in
+    let o₂ : (k : ℕ) → (k ≡ n + 1 → ⊥) → getD t₂ k 0 ≡ getD t₁ k 0 = λ k f. getD-set-other t₁ (n + 1) k v 0 f in
+    let o₃ : (k : ℕ) → (k ≡ n + 2 → ⊥) → getD t₃ k 0 ≡ getD t₂ k 0 = λ k f. getD-set-other t₂ (n + 2) k w 0 f in
+    let p : Placed t₃ n u v w = record {
+      room = omega arith;
+      start = o₃ n (omega arith) ∙ o₂ n (omega arith) ∙ getD-set-same t₀ n u 0 (omega arith);
+      end = o₃ (n + 1) (omega arith) ∙ getD-set-same t₁ (n + 1) v 0 (omega arith);
+      next = getD-set-same t₂ (n + 2) w 0 (omega arith);
+    } in
+    record {
+      placed = p;
+      long = l₃ ∙ l₂ ∙ l₁;
+      below = λ k b. o₃ k (omega arith) ∙ o₂ k (omega arith) ∙ o₁ k (omega arith);
+      above = λ k b. o₃ k (omega arith) ∙ o₂ k (omega arith) ∙ o₁ k (omega arith);
+    }
+
+pub words-of : {x t : List ℕ} {i p e b n : ℕ} → Placed t i p e n → p < e → e ≤ length x → getD x p 0 ≡ b → Words x t i p e b n
+words-of w l h q = record { room = w .room; start = w .start; end = w .end; next = w .next; some = l; inside = h; byte = q }
+
+pub quoted-of : {x t : List ℕ} {i p e : ℕ} → Placed t i p e (i + 3) → p + 2 ≤ e → e ≤ length x → getD x p 0 ≡ 34 → Quoted x t i p e (slice (p + 1) (e - 1) x)
+quoted-of w l h q = record { words = words-of w (omega arith) h q; quotes = l; between = refl }
+
+-- a value that opens no level
+module _ (x : List ℕ) (p : ℕ) (l : p < length x) where
+  pub scalar-string : {r : Scan} → getD x p 0 ≡ 34 → ReadsString x (p + 1) r → Scalar x p r
+  unfolding Scalar charsOf closedOf size
+  scalar-string {r = End e} b s =
+      let w = s .past in
+      record {
+        value = tree.str p e (slice (p + 1) (e - 1) x);
+        more = omega (arith, w .0);
+        inside = w .1;
+        width = refl;
+        stands = λ t i w′. str (quoted-of w′ (omega (arith, w .0)) (w .1) b);
+        goes = λ ks. moves x want ks p (chars value p) ks l (want-quote 32 x p _ b ks) ∙ s .reads .same (record { role = value; begun = p }) ks;
+      }
+  scalar-string {r = Bad q} b s = λ ks. moves x want ks p (chars value p) ks l (want-quote 32 x p _ b ks) ∙ s .reads .same (record { role = value; begun = p }) ks
+
+  scalar-numeral : {r : Scan} (m : ℕ → Mode) → true ≡ isNumeric (getD x p 0) → ((ks : List Frame) → step 32 x want ks p (getD x p 0) ≡ go (m p) ks) → Reads x m (numbered x) (p + 1) r → Scalar x p r
+  unfolding Scalar numbered size
+  scalar-numeral {r = End e} m d f s =
+      let w = s .within in
+      record {
+        value = tree.num p e (slice p e x);
+        more = omega (arith, w .0);
+        inside = w .1;
+        width = refl;
+        stands = λ t i w′. num (words-of w′ (omega (arith, w .0)) (w .1) refl) d refl;
+        goes = λ ks. moves x want ks p (m p) ks l (f ks) ∙ s .same p ks;
+      }
+  scalar-numeral {r = Bad q} m d f s = λ ks. moves x want ks p (m p) ks l (f ks) ∙ s .same p ks
+
+  pub scalar-minus : {r : Scan} → getD x p 0 ≡ 45 → Reads x neg (numbered x) (p + 1) r → Scalar x p r
+  unfolding isNumeric
+  scalar-minus b s = scalar-numeral neg (rw b) (want-minus 32 x p _ b) s
+
+  pub scalar-0 : {r : Scan} → getD x p 0 ≡ 48 → Reads x nought (numbered x) (p + 1) r → Scalar x p r
+  unfolding isNumeric isDigit
+  scalar-0 b s = scalar-numeral nought (rw b) (want-0 32 x p _ b) s
+
+  pub scalar-digit : {r : Scan} → false ≡ isBlank (getD x p 0) → (getD x p 0 ≡ 48 → ⊥) → 48 ≤ getD x p 0 → getD x p 0 < 58 → Reads x int (numbered x) (p + 1) r → Scalar x p r
+  unfolding isNumeric
+  scalar-digit w z lo hi s = scalar-numeral int (rw (ne-eqb (getD x p 0) 45 (λ e. omega arith)) (is-digit (getD x p 0) lo hi)) (want-digit 32 x p _ w z (is-digit (getD x p 0) lo hi) lo (omega arith)) s
+
+  scalar-word : {r : Scan} (ws : List ℕ) (s : WordAt) (v : (e : ℕ) → Json) → ((e : ℕ) → size (v e) ≡ 3)
+      → ((e : ℕ) (t : List ℕ) (i : ℕ) → p < e → e ≤ length x → Placed t i p e (i + 3) → Sub x t i (v e))
+      → ((e : ℕ) → literalOf [] s e ≡ Mode.got (v e))
+      → ((ks : List Frame) → step 32 x want ks p (getD x p 0) ≡ go (literalOf ws s (p + 1)) ks) → ReadsWord x ws (p + 1) r → Scalar x p r
+  unfolding Scalar
+  scalar-word {r = End e} ws s v z sub lit f h =
+      let w = h .reads .within in
+      record {
+        value = v e;
+        more = omega (arith, w .0);
+        inside = w .1;
+        width = z e;
+        stands = λ t i w′. sub e t i (omega (arith, w .0)) (w .1) w′;
+        goes = λ ks. moves x want ks p (literalOf ws s (p + 1)) ks l (f ks) ∙ h .reads .same s ks ∙ rw (lit e);
+      }
+  scalar-word {r = Bad q} ws s v z sub lit f h = λ ks. moves x want ks p (literalOf ws s (p + 1)) ks l (f ks) ∙ h .reads .same s ks
+
+  pub scalar-true : {r : Scan} → getD x p 0 ≡ 116 → ReadsWord x (114 ∷ 117 ∷ 101 ∷ []) (p + 1) r → Scalar x p r
+  unfolding literalOf ascii size
+  scalar-true b h = scalar-word (114 ∷ 117 ∷ 101 ∷ []) (record { begun = p; meant = some true }) (λ e. tree.bool p e true) (λ e. refl) (λ e t i a c w. bool (words-of w a c b)) (λ e. refl) (want-t 32 x p _ b) h
+
+  pub scalar-false : {r : Scan} → getD x p 0 ≡ 102 → ReadsWord x (97 ∷ 108 ∷ 115 ∷ 101 ∷ []) (p + 1) r → Scalar x p r
+  unfolding literalOf ascii size
+  scalar-false b h = scalar-word (97 ∷ 108 ∷ 115 ∷ 101 ∷ []) (record { begun = p; meant = some false }) (λ e. tree.bool p e false) (λ e. refl) (λ e t i a c w. bool (words-of w a c b)) (λ e. refl) (want-f 32 x p _ b) h
+
+  pub scalar-null : {r : Scan} → getD x p 0 ≡ 110 → ReadsWord x (117 ∷ 108 ∷ 108 ∷ []) (p + 1) r → Scalar x p r
+  unfolding literalOf ascii size
+  scalar-null b h = scalar-word (117 ∷ 108 ∷ 108 ∷ []) (record { begun = p; meant = option.none }) (λ e. tree.null p e) (λ e. refl) (λ e t i a c w. null (words-of w a c b)) (λ e. refl) (want-n 32 x p _ b) h
+
+  module _ (w : false ≡ isBlank (getD x p 0)) (h91 : getD x p 0 ≡ 91 → ⊥) (h123 : getD x p 0 ≡ 123 → ⊥) (h34 : getD x p 0 ≡ 34 → ⊥) (h45 : getD x p 0 ≡ 45 → ⊥) (h48 : getD x p 0 ≡ 48 → ⊥) (h116 : getD x p 0 ≡ 116 → ⊥) (h102 : getD x p 0 ≡ 102 → ⊥) (h110 : getD x p 0 ≡ 110 → ⊥) where
+    pub scalar-low : getD x p 0 < 48 → Scalar x p (Bad p)
+    unfolding Scalar
+    scalar-low h = λ ks. dies x want ks p l (want-no 32 x p _ w h91 h123 h34 h45 h48 h116 h102 h110 (under-digit (getD x p 0) h) ks)
+
+    pub scalar-high : 58 ≤ getD x p 0 → Scalar x p (Bad p)
+    unfolding Scalar
+    scalar-high h = λ ks. dies x want ks p l (want-no 32 x p _ w h91 h123 h34 h45 h48 h116 h102 h110 (over-digit (getD x p 0) (omega arith) h) ks)
+
+-- and its node
+module _ (x : List ℕ) (at : ℕ) (r : Scan) (s : Scalar x at r) where
+  leaf : {e : ℕ} → r ≡ End e → Leaf x at e
+  unfolding Scalar
+  leaf q = rw q at s
+
+  pub atom-fits : {t : List ℕ} {n e : ℕ} → r ≡ End e → Ready x t at 0 32 n → Fits t n at e (n + 3)
+  atom-fits q k =
+      let f = leaf q in
+      record { room = omega (arith, f .more, f .inside, k .words, k .fits); start = omega (arith, f .more, f .inside, k .texts); end = omega (arith, f .inside, k .texts); next = omega (arith, f .more, f .inside, k .texts, k .fits) }
+
+  pub atom-read : {t₀ t : List ℕ} {n e : ℕ} → r ≡ End e → Wrote t₀ t n at e (n + 3) → Atom x t₀ t at n (walk.Read e (n + 3))
+  unfolding Atom
+  atom-read q w = record { leaf = leaf q; wrote = w; width = refl }
+
+  pub atom-bad : (t₀ t : List ℕ) (n q : ℕ) → r ≡ Bad q → Atom x t₀ t at n (walk.Bad q)
+  unfolding Atom Scalar
+  atom-bad t₀ t n q e = rw e at s
+
+-- a name, after the blanks before it
+pub string-high : {x : List ℕ} {at e : ℕ} {r : Scan} → ReadsString x at r → r ≡ End e → e ≤ length x
+string-high {x} {at} {e} {r} s q = let w : Within (at + 1) (length x) (End e) = rw q at (s .past) in w .1
+
+pub string-small : {x : List ℕ} {at e : ℕ} {r : Scan} → ReadsString x at r → r ≡ End e → length x ≤ 65535 → e < 2 ^ 32
+string-small s q l = let h = string-high s q in omega arith
+
+string-low : {x : List ℕ} {at e : ℕ} {r : Scan} → ReadsString x at r → r ≡ End e → at + 1 ≤ e
+string-low {x} {at} {e} {r} s q = let w : Within (at + 1) (length x) (End e) = rw q at (s .past) in w .0
+
+module _ {x : List ℕ} {at i : ℕ} (k : Skips blanks isBlank x at i) where
+  pub name-out : (t₀ t : List ℕ) (n : ℕ) → length x ≤ i → Names x t₀ t at n (Bad i)
+  unfolding Names
+  name-out t₀ t n l = λ p ms ks. k .stays .same (name1 p ms) tt ks ∙ short x (name1 p ms) ks i refl l
+
+  pub name-wrong : (t₀ t : List ℕ) (n : ℕ) → i < length x → (getD x i 0 ≡ 34 → ⊥) → Names x t₀ t at n (Bad i)
+  unfolding Names
+  name-wrong t₀ t n l h = λ p ms ks. k .stays .same (name1 p ms) tt ks ∙ dies x (name1 p ms) ks i l (name-no 32 x i _ (k .stop l) h p ms ks)
+
+  module _ {r : Scan} (l : i < length x) (b : getD x i 0 ≡ 34) (s : ReadsString x (i + 1) r) where
+    pub name-break : (t₀ t : List ℕ) (n : ℕ) → NoEnd r → Names x t₀ t at n r
+    unfolding Names charsOf
+    name-break t₀ t n h = stuck r h s
+      where
+        stuck : (r : Scan) → NoEnd r → ReadsString x (i + 1) r → Names x t₀ t at n r
+        stuck (End e) h s = absurd (omega arith)
+        stuck (Bad q) h s = λ p ms ks. k .stays .same (name1 p ms) tt ks ∙ moves x (name1 p ms) ks i (chars (name p ms) i) ks l (name-quote 32 x i _ b p ms ks) ∙ s .reads .same (record { role = name p ms; begun = i }) ks
+
+    module _ {e : ℕ} (q : r ≡ End e) where
+      called : (p : ℕ) (ms : Members) (ks : List Frame) → from x (name1 p ms) ks at ≡ from x (colon p ms (record { place = i; end = e; raw = slice (i + 1) (e - 1) x })) ks e
+      unfolding charsOf closedOf
+      called p ms ks = k .stays .same (name1 p ms) tt ks ∙ moves x (name1 p ms) ks i (chars (name p ms) i) ks l (name-quote 32 x i _ b p ms ks) ∙ (rw q at (s .reads .same (record { role = name p ms; begun = i }) ks))
+
+      module _ {j : ℕ} (k₂ : Skips blanks isBlank x e j) where
+        pub colon-out : (t₀ t : List ℕ) (n : ℕ) → length x ≤ j → Names x t₀ t at n (Bad j)
+        unfolding Names
+        colon-out t₀ t n h = λ p ms ks. called p ms ks ∙ k₂ .stays .same _ tt ks ∙ short x _ ks j refl h
+
+        pub colon-wrong : (t₀ t : List ℕ) (n : ℕ) → j < length x → (getD x j 0 ≡ 58 → ⊥) → Names x t₀ t at n (Bad j)
+        unfolding Names
+        colon-wrong t₀ t n h c = λ p ms ks. called p ms ks ∙ k₂ .stays .same _ tt ks ∙ dies x _ ks j h (colon-no 32 x j _ (k₂ .stop h) c p ms _ ks)
+
+        pub named : (t₀ t : List ℕ) (n : ℕ) → j < length x → getD x j 0 ≡ 58 → Wrote t₀ t n i e (n + 3) → Names x t₀ t at n (End (j + 1))
+        unfolding Names
+        named t₀ t n h c w =
+            let lo = string-low s q in
+            let hi = string-high s q in
+            record {
+              key = record { place = i; end = e; raw = slice (i + 1) (e - 1) x };
+              stands = quoted-of (w .placed) (omega arith) hi b;
+              goes = λ p ms ks. called p ms ks ∙ k₂ .stays .same _ tt ks ∙ moves x _ ks j _ _ h (colon-yes 32 x j _ c p ms _ ks);
+              more = omega (arith, k .stays .low, k₂ .stays .low);
+              inside = omega arith;
+              long = w .long;
+              below = w .below;
+            }

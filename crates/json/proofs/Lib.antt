@@ -1,0 +1,7 @@
+-- What the proofs of several functions use.
+mod Bytes
+mod Moves
+mod Parts
+mod Leaves
+mod Growth
+mod Rules

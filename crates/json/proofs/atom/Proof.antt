@@ -1,0 +1,18 @@
+-- `json::atom` meets its contract. Assumes nothing.
+use Rattle.json.proofs.Rules.{walks}
+use Rattle.json.proofs.atom.Statement.{statement}
+use Rattle.json.proofs.atom.Tie as tie
+
+pub atom-spec : {M : Type 1} → statement M
+atom-spec =
+    tie.close
+    (tie.spec
+    (λ c κs. search walks)
+    (λ c. search walks)
+    (λ c. search walks)
+    (λ c. search walks)
+    (λ c κs. search walks)
+    (λ c. search walks)
+    (λ c. search walks)
+    (λ c. search walks)
+    (λ c. search walks))

@@ -1,0 +1,19 @@
+-- `json::exponent` meets its contract. Assumes nothing.
+use Rattle.json.proofs.Rules.{lexes}
+use Rattle.json.proofs.exponent.Statement.{statement}
+use Rattle.json.proofs.exponent.Tie as tie
+
+pub exponent-spec : {M : Type 1} → statement M
+exponent-spec =
+    tie.close
+    (tie.spec
+    (λ c. search lexes)
+    (λ c. search lexes)
+    (λ c. search lexes)
+    (λ c κs. search lexes)
+    (λ c. search lexes)
+    (λ c κs. search lexes)
+    (λ c κs. search lexes)
+    (λ c. search lexes)
+    (λ c. search lexes)
+    (λ c. search lexes))

@@ -1,0 +1,12 @@
+-- `json::integer` meets its contract. Assumes nothing.
+use Rattle.json.proofs.Rules.{lexes}
+use Rattle.json.proofs.integer.Statement.{statement}
+use Rattle.json.proofs.integer.Tie as tie
+
+pub integer-spec : {M : Type 1} → statement M
+integer-spec =
+    tie.close
+    (tie.spec
+    (λ c κs. search lexes)
+    (λ c κs. search lexes)
+    (λ c. search lexes))

@@ -1,0 +1,19 @@
+-- `json::negative` meets its contract. Assumes nothing.
+use Rattle.json.proofs.Rules.{lexes}
+use Rattle.json.proofs.negative.Statement.{statement}
+use Rattle.json.proofs.negative.Tie as tie
+
+pub negative-spec : {M : Type 1} → statement M
+negative-spec =
+    tie.close
+    (tie.spec
+    (λ c. search lexes)
+    (λ c. search lexes)
+    (λ c. search lexes)
+    (λ c κs. search lexes)
+    (λ c. search lexes)
+    (λ c κs. search lexes)
+    (λ c. search lexes)
+    (λ c κs. search lexes)
+    (λ c. search lexes)
+    (λ c. search lexes))

@@ -1,0 +1,28 @@
+-- `json::skip_blanks` meets its contract. Assumes nothing.
+use Prim.Native.Nat.{_-_}
+use lib.ListN.{length}
+use Rattle.json.specs.Says.{Stays, blanks}
+use Rattle.json.proofs.Rules.{lexes}
+use Rattle.json.proofs.skip_blanks.Statement.{statement}
+use Rattle.json.proofs.skip_blanks.Tie as tie
+
+abbrev Inv-loop : tie.InvT-loop
+Inv-loop text at i₀ i = Stays blanks text at i
+
+abbrev μ-loop : tie.MeasureT-loop
+μ-loop text at i₀ i = length text - i
+
+pub skip-blanks-spec : {M : Type 1} → statement M
+skip-blanks-spec =
+    tie.close
+    (tie.spec
+    Inv-loop
+    μ-loop
+    (λ c. search lexes)
+    (λ c. search lexes)
+    (λ c κs. search lexes)
+    (λ c. search lexes)
+    (λ c. search lexes)
+    (λ c. search lexes)
+    (λ c. search lexes)
+    (λ c. search lexes))

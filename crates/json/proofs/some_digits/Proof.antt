@@ -1,0 +1,16 @@
+-- `json::some_digits` meets its contract. Assumes nothing.
+use Rattle.json.proofs.Rules.{lexes}
+use Rattle.json.proofs.some_digits.Statement.{statement}
+use Rattle.json.proofs.some_digits.Tie as tie
+
+pub some-digits-spec : {M : Type 1} → statement M
+some-digits-spec =
+    tie.close
+    (tie.spec
+    (λ c. search lexes)
+    (λ c. search lexes)
+    (λ c κs. search lexes)
+    (λ c. search lexes)
+    (λ c. search lexes)
+    (λ c κs. search lexes)
+    (λ c. search lexes))

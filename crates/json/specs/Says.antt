@@ -1,0 +1,261 @@
+-- What the parts of the parser say of the machine and of the table. Assumes nothing: these are definitions.
+use Prim.Native.Nat.{ℕ, zero, suc, _+_, _*_, _^_, _≤_, _<_}
+use mathlib.Core.Path.{_≡_}
+use mathlib.Core.Bool.{Bool, true, false}
+use mathlib.Core.Option.{Option}
+use mathlib.Core.List.{List, [], _∷_}
+use lib.ListN.{length, getD, drop}
+use lib.Dec.{T}
+use Rattle.json.specs.Tree.{Json, Members, Name}
+use Rattle.json.specs.Machine.{Frame, Role, Mode, Outcome, bad, tooDeep, object, run, isBlank, closed, numeral, literal}
+use Rattle.json.specs.Machine.Mode.{want, first, name0, name1, colon, got, chars, esc, hex, neg, nought, int, dot, frac, mant, exp, sign, exps, lit}
+use Rattle.json.specs.Table.{size, Sub, Quoted}
+use Rattle.json.specs.declared.Scan.{Scan}
+use Rattle.json.specs.declared.Scan.the-variants as scan
+use Rattle.json.specs.declared.Walk.{Walk}
+use Rattle.json.specs.declared.Walk.the-variants as walk
+
+-- the machine on the text from an offset on
+unfoldable pub from : List ℕ → Mode → List Frame → ℕ → Outcome
+from text m ks at = run 32 text m ks at (drop at text)
+
+-- what the machine makes of the text after a part that was found to be r: it goes on in the mode that m gives for the part's end
+abbrev pub land : List ℕ → (ℕ → Mode) → List Frame → Scan → Outcome
+land text m ks (scan.End e) = from text (m e) ks e
+land text m ks (scan.Bad n) = bad n
+
+-- the end that was found, if any, lies from lo to hi
+abbrev pub Within : ℕ → ℕ → Scan → Type 0
+Within lo hi (scan.End e) = (lo ≤ e) × (e ≤ hi)
+Within lo hi (scan.Bad n) = Unit
+
+-- the modes that white space does not change
+abbrev pub blanks : Mode → Bool
+blanks want = true
+blanks (first p) = true
+blanks (name0 p) = true
+blanks (name1 p ms) = true
+blanks (colon p ms k) = true
+blanks (got v) = true
+blanks (chars k p) = false
+blanks (esc k p) = false
+blanks (hex k p j) = false
+blanks (neg p) = false
+blanks (nought p) = false
+blanks (int p) = false
+blanks (dot p) = false
+blanks (frac p) = false
+blanks (mant p) = false
+blanks (exp p) = false
+blanks (sign p) = false
+blanks (exps p) = false
+blanks (lit p l ws) = false
+
+-- the modes that digits do not change
+abbrev pub digital : Mode → Bool
+digital want = false
+digital (first p) = false
+digital (name0 p) = false
+digital (name1 p ms) = false
+digital (colon p ms k) = false
+digital (got v) = false
+digital (chars k p) = false
+digital (esc k p) = false
+digital (hex k p j) = false
+digital (neg p) = false
+digital (nought p) = false
+digital (int p) = true
+digital (dot p) = false
+digital (frac p) = true
+digital (mant p) = false
+digital (exp p) = false
+digital (sign p) = false
+digital (exps p) = true
+digital (lit p l ws) = false
+
+-- the bytes from at up to i change none of the modes that ok names
+pub record Stays (ok : Mode → Bool) (text : List ℕ) (at i : ℕ) : Type 0 where
+  pub low : at ≤ i
+  pub high : i ≤ length text
+  pub same : (m : Mode) → T (ok m) → (ks : List Frame) → from text m ks at ≡ from text m ks i
+
+-- and the byte at r, if there is one, is not of the kind that test names
+pub record Skips (ok : Mode → Bool) (test : ℕ → Bool) (text : List ℕ) (at r : ℕ) : Type 0 where
+  pub stays : Stays ok text at r
+  pub stop : r < length text → false ≡ test (getD text r 0)
+
+-- For each a of A: from the mode m a at the offset at, the machine comes to the mode that m′ a gives for the end, as r says
+pub record Reads {A : Type 0} (text : List ℕ) (m : A → Mode) (m′ : A → ℕ → Mode) (at : ℕ) (r : Scan) : Type 0 where
+  pub within : Within at (length text) r
+  pub same : (a : A) (ks : List Frame) → from text (m a) ks at ≡ land text (m′ a) ks r
+
+-- the mode m a, wherever the part ends
+unfoldable pub to : {A : Type 0} → (A → Mode) → A → ℕ → Mode
+to m a e = m a
+
+-- a numeral that began at p is whole
+unfoldable pub numbered : List ℕ → ℕ → ℕ → Mode
+numbered text p e = got (numeral 32 text p e)
+
+-- a string that is being read: what it is, and where it began
+pub record StringAt : Type 0 where
+  pub role : Role
+  pub begun : ℕ
+
+-- the modes in a string: more of it; what follows a backslash
+unfoldable pub charsOf : StringAt → Mode
+charsOf s = chars (s .role) (s .begun)
+
+unfoldable pub escOf : StringAt → Mode
+escOf s = esc (s .role) (s .begun)
+
+-- so many hexadecimal digits are still to come
+unfoldable pub hexOf : ℕ → StringAt → Mode
+hexOf zero s = charsOf s
+hexOf (suc j) s = hex (s .role) (s .begun) j
+
+-- the mode after a string that ends before e
+unfoldable pub closedOf : List ℕ → StringAt → ℕ → Mode
+closedOf text s e = closed 32 text (s .role) (s .begun) e
+
+-- a string, whose end lies past the offset
+pub record ReadsString (text : List ℕ) (at : ℕ) (r : Scan) : Type 0 where
+  pub reads : Reads text charsOf (closedOf text) at r
+  pub past : Within (at + 1) (length text) r
+
+-- a word that is being read: where it began, and what it stands for
+pub record WordAt : Type 0 where
+  pub begun : ℕ
+  pub meant : Option Bool
+
+-- the mode where the bytes ws of a word are still to come at e, and after the word where none are
+unfoldable pub literalOf : List ℕ → WordAt → ℕ → Mode
+literalOf [] s e = got (literal (s .meant) (s .begun) e)
+literalOf (w ∷ ws) s e = lit (s .begun) (s .meant) (w ∷ ws)
+
+-- the bytes of a word, from its first byte at the offset at
+pub record ReadsWord (text word : List ℕ) (at : ℕ) (r : Scan) : Type 0 where
+  pub reads : Reads text (λ s. literalOf word s at) (literalOf []) at r
+
+-- the three words at i of the table t are p, e and n
+pub record Placed (t : List ℕ) (i p e n : ℕ) : Type 0 where
+  pub room : i + 2 < length t
+  pub start : getD t i 0 ≡ p
+  pub end : getD t (i + 1) 0 ≡ e
+  pub next : getD t (i + 2) 0 ≡ n
+
+-- what `put_node` asks: room for three words at i, and numbers that fit a word
+pub record Fits (t : List ℕ) (i p e n : ℕ) : Type 0 where
+  pub room : i + 2 < length t
+  pub start : p < 2 ^ 32
+  pub end : e < 2 ^ 32
+  pub next : n < 2 ^ 32
+
+-- what `put_node` tells: the three words are written, and the others are as they were
+pub record Wrote (t₀ t : List ℕ) (i p e n : ℕ) : Type 0 where
+  pub placed : Placed t i p e n
+  pub long : length t ≡ length t₀
+  pub below : (k : ℕ) → k < i → getD t k 0 ≡ getD t₀ k 0
+  pub above : (k : ℕ) → i + 3 ≤ k → getD t k 0 ≡ getD t₀ k 0
+
+-- the byte at the offset is no blank and opens nothing
+pub record Plain (x : List ℕ) (at : ℕ) : Type 0 where
+  pub there : at < length x
+  pub no-blank : false ≡ isBlank (getD x at 0)
+  pub no-array : getD x at 0 ≡ 91 → ⊥
+  pub no-object : getD x at 0 ≡ 123 → ⊥
+
+-- what stands from p to before e is a value that holds no other: three words are its table
+pub record Leaf (x : List ℕ) (p e : ℕ) : Type 0 where
+  pub value : Json
+  pub more : p < e
+  pub inside : e ≤ length x
+  pub width : size value ≡ 3
+  pub stands : (t : List ℕ) (i : ℕ) → Placed t i p e (i + 3) → Sub x t i value
+  pub goes : (ks : List Frame) → from x want ks p ≡ from x (got value) ks e
+
+-- what `scalar` tells of a value at p that opens no level
+unfoldable pub Scalar : List ℕ → ℕ → Scan → Type 0
+Scalar x p (scan.End e) = Leaf x p e
+Scalar x p (scan.Bad q) = (ks : List Frame) → from x want ks p ≡ bad q
+
+-- and its node is written at n, up to the word k
+pub record Atomic (x t₀ t : List ℕ) (at n e k : ℕ) : Type 0 where
+  pub leaf : Leaf x at e
+  pub wrote : Wrote t₀ t n at e k
+  pub width : n + 3 ≡ k
+
+-- what `atom` tells
+unfoldable pub Atom : List ℕ → List ℕ → List ℕ → ℕ → ℕ → Walk → Type 0
+Atom x t₀ t at n (walk.Read e k) = Atomic x t₀ t at n e k
+Atom x t₀ t at n (walk.Bad q) = (ks : List Frame) → from x want ks at ≡ bad q
+Atom x t₀ t at n (walk.Deep q) = (ks : List Frame) → from x want ks at ≡ tooDeep q
+
+-- Room for what is to be read at the offset at, where levels more containers may be opened, most in all, and n is the first free word:
+-- twice the words are at most three for each byte before and three for each container that is open
+pub record Ready (x t : List ℕ) (at levels most n : ℕ) : Type 0 where
+  pub texts : length x ≤ 65535
+  pub words : 3 * length x + 99 ≤ 2 * length t
+  pub high : at ≤ length x
+  pub most32 : most ≤ 32
+  pub fits : 2 * n + 3 * levels ≤ 3 * at + 3 * most
+
+-- a container is opened by the byte b at the offset at, and levels more may be opened in it
+pub record Opened (b : ℕ) (x t : List ℕ) (at levels n : ℕ) : Type 0 where
+  pub ready : Ready x t at levels 31 n
+  pub there : at < length x
+  pub byte : getD x at 0 ≡ b
+
+-- From the mode m at the offset at, with levels left of most, the machine reads a value to before e, whose words stand in the table t from n up to n′;
+-- the words before n are as they were in t₀
+pub record Read (x t₀ t : List ℕ) (m : Mode) (at levels most n e n′ : ℕ) : Type 0 where
+  pub value : Json
+  pub stands : Sub x t n value
+  pub ends : n + size value ≡ n′
+  pub goes : (ks : List Frame) → length ks + levels ≡ most → from x m ks at ≡ from x (got value) ks e
+  pub more : at < e
+  pub inside : e ≤ length x
+  pub fits : 2 * n′ + 3 * levels ≤ 3 * e + 3 * most + 3
+  pub long : length t ≡ length t₀
+  pub below : (k : ℕ) → k < n → getD t k 0 ≡ getD t₀ k 0
+
+-- what `value`, `array` and `object` tell: a value was read; or the machine stops at a place, or finds a level too many there
+unfoldable pub Told : List ℕ → List ℕ → List ℕ → Mode → ℕ → ℕ → ℕ → ℕ → Walk → Type 0
+Told x t₀ t m at levels most n (walk.Read e n′) = Read x t₀ t m at levels most n e n′
+Told x t₀ t m at levels most n (walk.Bad q) = (ks : List Frame) → length ks + levels ≡ most → from x m ks at ≡ bad q
+Told x t₀ t m at levels most n (walk.Deep q) = (ks : List Frame) → length ks + levels ≡ most → from x m ks at ≡ tooDeep q
+
+-- the name of a member and its colon, up to before e; its three words stand in the table from n on
+pub record Named (x t₀ t : List ℕ) (at n e : ℕ) : Type 0 where
+  pub key : Name
+  pub stands : Quoted x t n (key .place) (key .end) (key .raw)
+  pub goes : (p : ℕ) (ms : Members) (ks : List Frame) → from x (name1 p ms) ks at ≡ from x want (object p ms key ∷ ks) e
+  pub more : at + 3 ≤ e
+  pub inside : e ≤ length x
+  pub long : length t ≡ length t₀
+  pub below : (k : ℕ) → k < n → getD t k 0 ≡ getD t₀ k 0
+
+-- what `member_name` tells
+unfoldable pub Names : List ℕ → List ℕ → List ℕ → ℕ → ℕ → Scan → Type 0
+Names x t₀ t at n (scan.End e) = Named x t₀ t at n e
+Names x t₀ t at n (scan.Bad q) = (p : ℕ) (ms : Members) (ks : List Frame) → from x (name1 p ms) ks at ≡ bad q
+
+-- a member, up to before e: its name, whose words stand in the table from n on, and its value, whose words follow, up to k
+pub record Membered (x t₀ t : List ℕ) (at levels n e k : ℕ) : Type 0 where
+  pub key : Name
+  pub value : Json
+  pub quoted : Quoted x t n (key .place) (key .end) (key .raw)
+  pub stands : Sub x t (n + 3) value
+  pub ends : n + (3 + size value) ≡ k
+  pub goes : (p : ℕ) (ms : Members) (ks : List Frame) → length ks + levels ≡ 31 → from x (name1 p ms) ks at ≡ from x (got value) (object p ms key ∷ ks) e
+  pub more : at < e
+  pub inside : e ≤ length x
+  pub fits : 2 * k + 3 * levels ≤ 3 * e + 99
+  pub long : length t ≡ length t₀
+  pub below : (j : ℕ) → j < n → getD t j 0 ≡ getD t₀ j 0
+
+-- what `member` tells
+unfoldable pub Member : List ℕ → List ℕ → List ℕ → ℕ → ℕ → ℕ → Walk → Type 0
+Member x t₀ t at levels n (walk.Read e k) = Membered x t₀ t at levels n e k
+Member x t₀ t at levels n (walk.Bad q) = (p : ℕ) (ms : Members) (ks : List Frame) → length ks + levels ≡ 31 → from x (name1 p ms) ks at ≡ bad q
+Member x t₀ t at levels n (walk.Deep q) = (p : ℕ) (ms : Members) (ks : List Frame) → length ks + levels ≡ 31 → from x (name1 p ms) ks at ≡ tooDeep q

@@ -1,0 +1,6 @@
+-- What the proofs of several functions use.
+mod Bytes
+mod Pieces
+mod Escapes
+mod Loops
+mod Rules
