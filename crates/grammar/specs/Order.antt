@@ -1,7 +1,9 @@
--- A tree that lies in order: each value stands between the ends of what holds it, and after what stands before it. Assumes nothing: these are definitions.
+-- A tree that lies in order: each value stands between the ends of what holds it, and after what stands before it,
+-- and a string or a name has room for its bytes and its quotes. Assumes nothing: these are definitions.
 use Prim.Native.Nat.{ℕ, _+_, _≤_, _<_}
 use mathlib.Core.Bool.{Bool}
 use mathlib.Core.List.{List}
+use lib.ListN.{length}
 use Rattle.json.specs.Tree.{Json, Items, _▸_, Members, member, Name}
 use Rattle.json.specs.Tree as tree
 
@@ -11,7 +13,7 @@ mutual
     null : {p e : ℕ} → p < e → Spans (tree.null p e) p e
     bool : {p e : ℕ} {b : Bool} → p < e → Spans (tree.bool p e b) p e
     num : {p e : ℕ} {raw : List ℕ} → p < e → Spans (tree.num p e raw) p e
-    str : {p e : ℕ} {raw : List ℕ} → p + 1 < e → Spans (tree.str p e raw) p e
+    str : {p e : ℕ} {raw : List ℕ} → p + (2 + length raw) ≤ e → Spans (tree.str p e raw) p e
     arr : {p e b : ℕ} {vs : Items} → Row vs (p + 1) b → b < e → Spans (tree.arr p e vs) p e
     obj : {p e b : ℕ} {ms : Members} → Rows ms (p + 1) b → b < e → Spans (tree.obj p e ms) p e
 
@@ -23,4 +25,4 @@ mutual
   -- members stand from a up to b, one after the other, the name of each before its value
   pub data Rows : Members → ℕ → ℕ → Type 0 where
     last : {a b : ℕ} → a ≤ b → Rows tree.empty a b
-    field : {a p e b : ℕ} {k : Name} {v : Json} {ms : Members} → a ≤ k .place → k .place + 1 < k .end → k .end < p → Spans v p e → Rows ms e b → Rows (member k v ms) a b
+    field : {a p e b : ℕ} {k : Name} {v : Json} {ms : Members} → a ≤ k .place → k .place + (2 + length (k .raw)) ≤ k .end → k .end < p → Spans v p e → Rows ms e b → Rows (member k v ms) a b

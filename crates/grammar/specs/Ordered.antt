@@ -1,8 +1,9 @@
 -- The tree of every text lies in order within the text. Assumes nothing.
-use Prim.Native.Nat.{ℕ, _+_, _≤_, _<_}
+use Prim.Native.Nat.{ℕ, _+_, _-_, _≤_, _<_}
 use native.Mathlib.Omega.{arith}
 use mathlib.Core.List.{List}
-use lib.ListN.{length}
+use lib.ListN.{length, take, length-take, length-drop}
+use lib.Seq.{slice}
 use Rattle.utf8.specs.Ascii.{ascii}
 use Rattle.json.specs.Tree.{Json, Items, Members}
 use Rattle.json.specs.Grammar.{Text, nameAt}
@@ -24,6 +25,10 @@ rows-from {a} {a′} h (o.Rows.field {k = n} k i j s t) = o.Rows.field {a = a′
 -- a value of at most l levels spans its place and its end
 abbrev Values : (x : List ℕ) (l : ℕ) → Type 0
 Values x l = (p e : ℕ) (v : Json) → g.Value x l p e v → Spans v p e × (p < e)
+
+-- a part of a text is no longer than its offsets say
+slice-short : (f t : ℕ) (x : List ℕ) → length (slice f t x) ≤ t - f
+slice-short f t x = omega (arith, length-drop f (take t x), length-take t x)
 
 module _ {x : List ℕ} where
   -- each rule of the grammar ends at or after its start
@@ -101,7 +106,7 @@ module _ {x : List ℕ} where
       let h₃ = chars-lt c in
       let h₄ = ws-le w₁ in
       let h₅ = ws-le w₂ in
-      (k, o.Rows.field {p = p} {k = nameAt x q f} h₁ (omega arith) (omega arith) s (o.Rows.last h₂), omega arith, omega arith)
+      (k, o.Rows.field {p = p} {k = nameAt x q f} h₁ (omega (arith, slice-short (q + 1) (f - 1) x)) (omega arith) s (o.Rows.last h₂), omega arith, omega arith)
   members-order l ih (g.Members.next-member {q = q} {f = f} {p = p} {e = e} {k = k} {v = v} w r c w₁ r₁ w₂ i w₃ r₂ es) =
       let (s, h) = ih p e v i in
       let h₁ = ws-le w in
@@ -110,12 +115,12 @@ module _ {x : List ℕ} where
       let h₄ = ws-le w₁ in
       let h₅ = ws-le w₂ in
       let (b, t, h₆, h₇) = members-order l ih es in
-      (b, o.Rows.field {p = p} {k = nameAt x q f} h₁ (omega arith) (omega arith) s (rows-from (omega arith) t), omega arith, h₇)
+      (b, o.Rows.field {p = p} {k = nameAt x q f} h₁ (omega (arith, slice-short (q + 1) (f - 1) x)) (omega arith) s (rows-from (omega arith) t), omega arith, h₇)
 
   -- a value, by what holds of those with one level less
   one-order : {l : ℕ} → Below (Values x) l → {p e : ℕ} {v : Json} → g.Value x l p e v → Spans v p e × (p < e)
   unfolding ascii
-  one-order ih (g.Value.string q c) = let h = chars-lt c in (o.Spans.str h, omega arith)
+  one-order ih {p} {e} (g.Value.string q c) = let h = chars-lt c in (o.Spans.str {p = p} {e = e} {raw = slice (p + 1) (e - 1) x} (omega (arith, slice-short (p + 1) (e - 1) x)), omega arith)
   one-order ih (g.Value.number i) = let h = number-lt i in (o.Spans.num h, h)
   one-order ih {p} {e} (g.Value.true′ w) = let h : p < e = omega (arith, word-le w) in (o.Spans.bool h, h)
   one-order ih {p} {e} (g.Value.false′ w) = let h : p < e = omega (arith, word-le w) in (o.Spans.bool h, h)

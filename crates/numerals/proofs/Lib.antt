@@ -1,0 +1,6 @@
+-- What the proofs of several functions use.
+mod Bytes
+mod Wholes
+mod Powers
+mod Sums
+mod Pairs

@@ -1,0 +1,12 @@
+-- `numerals::is_digit` meets its contract. Assumes nothing.
+use Rattle.numerals.proofs.Bytes.{bytes}
+use Rattle.numerals.proofs.is_digit.Statement.{statement}
+use Rattle.numerals.proofs.is_digit.Tie as tie
+
+pub is-digit-spec : {M : Type 1} → statement M
+is-digit-spec =
+    tie.close
+    (tie.spec
+    (λ c. search bytes)
+    (λ c. search bytes)
+    (λ c. search bytes))

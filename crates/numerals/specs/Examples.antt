@@ -1,0 +1,74 @@
+-- Worked examples of numerals: those of rule 13 and its limits. Assumes nothing.
+use mathlib.Core.Path.{_≡_, refl}
+use mathlib.Core.Option.{none, some}
+use mathlib.Core.List.{List, [], _∷_}
+use Prim.Native.Nat.{ℕ}
+use Prim.Native.Char.{code}
+use Prim.Native.String.{String, [] as nil, _∷_ as cons}
+use lib.IntN.{pos, negsuc}
+use mathlib.Core.Bool.{true, false}
+use Rattle.numerals.specs.Numerals.{pairOf, isInteger, integer, fits32, isBelow}
+
+unfoldable ascii : String → List ℕ
+ascii nil = []
+ascii (cons c s) = code c ∷ ascii s
+
+one-point-nought : pairOf (ascii "1.0") ≡ some (record { m = pos 1; e = pos 0 })
+unfolding pairOf ascii
+one-point-nought = refl
+
+thousandth : pairOf (ascii "0.001") ≡ some (record { m = pos 1; e = negsuc 2 })
+unfolding pairOf ascii
+thousandth = refl
+
+hundred-less : pairOf (ascii "-120.50E+1") ≡ some (record { m = negsuc 1204; e = pos 0 })
+unfolding pairOf ascii
+hundred-less = refl
+
+nought-of-any-size : pairOf (ascii "0e999999999999") ≡ some (record { m = pos 0; e = pos 0 })
+unfolding pairOf ascii
+nought-of-any-size = refl
+
+minus-nought : pairOf (ascii "-0.00") ≡ some (record { m = pos 0; e = pos 0 })
+unfolding pairOf ascii
+minus-nought = refl
+
+ten-e-minus-23 : pairOf (ascii "10e-23") ≡ some (record { m = pos 1; e = negsuc 21 })
+unfolding pairOf ascii
+ten-e-minus-23 = refl
+
+one-e-23 : pairOf (ascii "1e23") ≡ none
+unfolding pairOf ascii
+one-e-23 = refl
+
+ten-to-15 : pairOf (ascii "1000000000000000") ≡ some (record { m = pos 1; e = pos 15 })
+unfolding pairOf ascii
+ten-to-15 = refl
+
+sixteen-digits : pairOf (ascii "1000000000000001") ≡ none
+unfolding pairOf ascii
+sixteen-digits = refl
+
+minus-nought-integer : integer (ascii "-0") ≡ pos 0
+unfolding integer ascii
+minus-nought-integer = refl
+
+one-point-nought-integer : isInteger (ascii "1.0") ≡ false
+unfolding isInteger ascii
+one-point-nought-integer = refl
+
+minus-nought-below : isBelow 1 (integer (ascii "-0")) ≡ true
+unfolding isBelow integer ascii
+minus-nought-below = refl
+
+minus-one-below : isBelow 1 (integer (ascii "-1")) ≡ false
+unfolding isBelow integer ascii
+minus-one-below = refl
+
+least-32 : fits32 (integer (ascii "-2147483648")) ≡ true
+unfolding fits32 integer ascii
+least-32 = refl
+
+past-32 : fits32 (integer (ascii "2147483648")) ≡ false
+unfolding fits32 integer ascii
+past-32 = refl

@@ -1,0 +1,5 @@
+-- What the bytes of a JSON numeral stand for.
+pub mod Numerals
+pub mod Examples
+pub mod Laws
+pub mod Reading

@@ -1,0 +1,22 @@
+-- Tests that antt computes at each number of a range, and what they tell of one of the numbers. Assumes nothing.
+use Prim.Native.Nat.{ℕ, zero, suc, _+_, _<_}
+use native.Mathlib.Omega.{arith}
+use mathlib.Core.Path.{_≡_, refl, sym}
+use mathlib.Core.Bool.{Bool, true, false}
+use Rattle.utf8.specs.Laws.{both-left, both-right}
+use Rattle.words.specs.Tables.{each, agree}
+
+-- a test that passes at each number passes at one of them
+each-from : (f : ℕ → Bool) (i n k : ℕ) → each f i n ≡ true → k < n → f (i + k) ≡ true
+each-from f i zero k e h = absurd (omega arith)
+each-from f i (suc n) zero e h = let z : i + 0 ≡ i = omega arith in rw z (both-left (f i) _ e)
+each-from f i (suc n) (suc k) e h = let z : i + suc k ≡ suc i + k = omega arith in rw z (each-from f (suc i) n k (both-right (f i) _ e) (omega arith))
+
+pub each-below : (f : ℕ → Bool) (n k : ℕ) → each f 0 n ≡ true → k < n → f k ≡ true
+each-below f n k e h = let z : k ≡ 0 + k = omega arith in rw z (each-from f 0 n k e h)
+
+-- truth values that agree are equal
+pub agree-equal : (a b : Bool) → agree a b ≡ true → a ≡ b
+agree-equal true b e = sym e
+agree-equal false true e = e
+agree-equal false false e = refl

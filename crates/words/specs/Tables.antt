@@ -1,0 +1,53 @@
+-- What the private functions are asked and tell: the number of the first of some words that a text is, where the words stand one after the other in a string of bytes; and a table of the permitted geometries.
+-- Assumes nothing: these are definitions.
+use Prim.Native.Nat.{ℕ, zero, suc, _+_, _-_, _/_, _^_}
+use Prim.Native.String.{String}
+use mathlib.Core.Bool.{Bool, true, false, cond, not, _&&_}
+use mathlib.Core.List.{List, [], _∷_}
+use lib.ListN.{take, drop, getD}
+use lib.Bits.{bitAnd}
+use lib.Dec.{eqb, leb}
+use Rattle.utf8.specs.Ascii.{ascii}
+use Rattle.utf8.specs.Utf8.{same}
+use Rattle.words.specs.Words.{isPermitted}
+
+-- the words of the bytes from an offset on, by the offsets at which they end
+unfoldable pub wordsIn : List ℕ → ℕ → List ℕ → List (List ℕ)
+wordsIn bytes from [] = []
+wordsIn bytes from (e ∷ es) = take (e - from) (drop from bytes) ∷ wordsIn bytes e es
+
+-- do the ends go on from an offset in order, none past a length?
+unfoldable pub inOrder : ℕ → List ℕ → ℕ → Bool
+inOrder from [] size = true
+inOrder from (e ∷ es) size = leb from e && leb e size && inOrder e es size
+
+-- the number, counted from n, of the first of some words that a text is; 0 if it is none of them
+unfoldable pub numberIn : ℕ → List (List ℕ) → List ℕ → ℕ
+unfolding same
+numberIn n [] t = 0
+numberIn n (w ∷ ws) t = cond (same w t) n (numberIn (n + 1) ws t)
+
+-- the bytes of quoted words
+unfoldable pub spelled : List String → List (List ℕ)
+unfolding ascii
+spelled [] = []
+spelled (w ∷ ws) = ascii w ∷ spelled ws
+
+-- does a test pass at each of the n numbers from i on?
+abbrev pub each : (ℕ → Bool) → ℕ → ℕ → Bool
+each f i zero = true
+each f i (suc n) = f i && each f (suc i) n
+
+-- do two truth values agree?
+abbrev pub agree : Bool → Bool → Bool
+agree true b = b
+agree false b = not b
+
+-- bit c of the number at o
+unfoldable pub bitAt : List ℕ → ℕ → ℕ → Bool
+bitAt rows o c = eqb (bitAnd (getD rows o 0 / 2 ^ c) 1) 1
+
+-- does bit c of the number at o tell whether an object of code o may have a geometry of code c, for each o below 34 and each c below 8?
+unfoldable pub tabled : List ℕ → Bool
+unfolding bitAt isPermitted
+tabled rows = each (λ o. each (λ c. agree (bitAt rows o c) (isPermitted o c)) 0 8) 0 34
