@@ -5,7 +5,6 @@ pub mod Table
 pub mod Grammar
 pub mod Steps
 pub mod Laws
-pub mod Flat
 pub mod Says
 pub mod Parse
 pub mod Examples

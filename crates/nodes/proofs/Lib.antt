@@ -1,0 +1,6 @@
+-- What the proofs of several functions use.
+mod Firsts
+mod Loops
+mod Passes
+mod Rule5
+mod Rule6

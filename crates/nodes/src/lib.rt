@@ -1,0 +1,247 @@
+// Nodes of the table of a JSON text: what stands at a node, what stands below it, and rules 5 and 6, which hold in every part of a text.
+// A fault is a rule with its place as one number; a function that looks for faults takes the least so far and gives the least.
+ghost use Prim.Native.Nat.{ℕ, _+_, _*_, _<_, _≤_, min};
+ghost use mathlib.Core.Bool.{Bool};
+ghost use mathlib.Core.List.{List, map};
+ghost use mathlib.Core.Path.{_≡_};
+ghost use lib.ListN.{length, getD};
+ghost use Rattle.nodes.specs.Access.{isNullValue, isNumberValue, isStringValue, isArrayValue, isObjectValue, elements, members, firstNamed};
+ghost use Rattle.nodes.specs.Faults.{fault, least};
+ghost use Rattle.nodes.specs.Everywhere.{rule5, rule6};
+ghost use Rattle.nodes.specs.Says.{Node, Root, Gives, Seeks};
+ghost use Rattle.nodes.specs.Parts.{AnyPart, PartGives, own5, own6, NameNode, Repeats, RepeatGives};
+
+// What a search gives: the node of what is sought, or that there is none.
+pub enum Found {
+    At(usize),
+    Nothing,
+}
+
+// A word of the table.
+fn wide(w: u32) -> usize
+    ensures { λ r. ⌜ r ≡ w ⌝ }
+{
+    w as usize
+}
+
+// Where what stands at a node starts in the text.
+pub fn start(table: &[u32], i: usize) -> usize
+    requires { ⌜ i < length (now table) ⌝ }
+    ensures { λ r. ⌜ r ≡ getD (now (table .entry)) i 0 ⌝ }
+{
+    wide(table[i])
+}
+
+// Where it ends: one past its last byte.
+pub fn end(table: &[u32], i: usize) -> usize
+    requires { ⌜ i + 1 < length (now table) ⌝ }
+    ensures { λ r. ⌜ r ≡ getD (now (table .entry)) (i + 1) 0 ⌝ }
+{
+    wide(table[i + 1])
+}
+
+// The node after it and all that it holds.
+pub fn next(table: &[u32], i: usize) -> usize
+    requires { ⌜ i + 2 < length (now table) ⌝ }
+    ensures { λ r. ⌜ r ≡ getD (now (table .entry)) (i + 2) 0 ⌝ }
+{
+    wide(table[i + 2])
+}
+
+// The byte that a value starts with, which tells its kind.
+pub fn lead(text: &[u8], table: &[u32], i: usize) -> u8
+    requires { ⌜ Node (now text) (now table) i ⌝ }
+    ensures { λ r. ⌜ r ≡ getD (now (text .entry)) (getD (now (table .entry)) i 0) 0 ⌝ }
+{
+    let at = start(table, i);
+    text[at]
+}
+
+pub fn is_null(text: &[u8], table: &[u32], i: usize) -> bool
+    requires { ⌜ Node (now text) (now table) i ⌝ }
+    ensures { λ r. ⌜ Gives isNullValue (now (text .entry)) (now (table .entry)) i r ⌝ }
+{
+    lead(text, table, i) == b'n'
+}
+
+pub fn is_string(text: &[u8], table: &[u32], i: usize) -> bool
+    requires { ⌜ Node (now text) (now table) i ⌝ }
+    ensures { λ r. ⌜ Gives isStringValue (now (text .entry)) (now (table .entry)) i r ⌝ }
+{
+    lead(text, table, i) == b'"'
+}
+
+pub fn is_array(text: &[u8], table: &[u32], i: usize) -> bool
+    requires { ⌜ Node (now text) (now table) i ⌝ }
+    ensures { λ r. ⌜ Gives isArrayValue (now (text .entry)) (now (table .entry)) i r ⌝ }
+{
+    lead(text, table, i) == b'['
+}
+
+pub fn is_object(text: &[u8], table: &[u32], i: usize) -> bool
+    requires { ⌜ Node (now text) (now table) i ⌝ }
+    ensures { λ r. ⌜ Gives isObjectValue (now (text .entry)) (now (table .entry)) i r ⌝ }
+{
+    lead(text, table, i) == b'{'
+}
+
+pub fn is_number(text: &[u8], table: &[u32], i: usize) -> bool
+    requires { ⌜ Node (now text) (now table) i ⌝ }
+    ensures { λ r. ⌜ Gives isNumberValue (now (text .entry)) (now (table .entry)) i r ⌝ }
+{
+    match lead(text, table, i) {
+        b'-' => true,
+        b'0'..=b'9' => true,
+        _ => false,
+    }
+}
+
+// How many elements a value has: none if it is no array.
+pub fn count(text: &[u8], table: &[u32], i: usize) -> usize
+    requires { ⌜ Node (now text) (now table) i ⌝ }
+    ensures { λ r. ⌜ Gives (λ v. length (elements v)) (now (text .entry)) (now (table .entry)) i r ⌝ }
+{
+    if !is_array(text, table, i) {
+        return 0;
+    }
+    let n = next(table, i);
+    let mut k = i + 3;
+    let mut found = 0;
+    while k < n {
+        found += 1;
+        k = next(table, k);
+    }
+    found
+}
+
+// The first member of a value whose name is that word, as decoded: none if it is no object.
+pub fn member(text: &[u8], table: &[u32], i: usize, name: &[u8]) -> Found
+    requires { ⌜ Node (now text) (now table) i ⌝ }
+    ensures { λ r. ⌜ Seeks (λ v. firstNamed (now (name .entry)) (members v)) (now (text .entry)) (now (table .entry)) i r ⌝ }
+{
+    if !is_object(text, table, i) {
+        return Found::Nothing;
+    }
+    let n = next(table, i);
+    let mut key = i + 3;
+    while key < n {
+        let from = start(table, key);
+        let to = end(table, key);
+        if strings::is_word(text, from + 1, to - 1, name) {
+            return Found::At(key + 3);
+        }
+        key = next(table, key + 3);
+    }
+    Found::Nothing
+}
+
+// The lesser of two faults.
+pub fn lesser(best: u32, other: u32) -> u32
+    ensures { λ r. ⌜ r ≡ min best other ⌝ }
+{
+    if other < best { other } else { best }
+}
+
+// A rule with its place.
+pub fn fault_at(rule: u32, place: usize) -> u32
+    requires { ⌜ (rule < 18) × (place ≤ 65535) ⌝ }
+    ensures { λ r. ⌜ r ≡ fault rule place ⌝ }
+{
+    rule * 65536 + place as u32
+}
+
+// Rule 5 at a node, if a string or a name stands there: an unpaired surrogate escape, at its backslash.
+fn unpaired_at(text: &[u8], table: &[u32], i: usize, best: u32) -> u32
+    requires { ⌜ AnyPart (now text) (now table) i ⌝ }
+    ensures { λ r. ⌜ PartGives 5 own5 (now (text .entry)) (now (table .entry)) i best r ⌝ }
+{
+    let from = start(table, i);
+    if text[from] != b'"' {
+        return best;
+    }
+    let to = end(table, i);
+    let found = strings::first_unpaired(text, from + 1, to - 1);
+    match found {
+        strings::Found::At(p) => lesser(best, fault_at(5, p)),
+        strings::Found::Nothing => best,
+    }
+}
+
+// Rule 5 in the tree whose table has n words.
+pub fn unpaired(text: &[u8], table: &[u32], n: usize, best: u32) -> u32
+    requires { ⌜ Root (now text) (now table) n ⌝ }
+    ensures { λ r. ⌜ Gives (λ v. least best (map (fault 5) (rule5 v))) (now (text .entry)) (now (table .entry)) 0 r ⌝ }
+{
+    let mut least = best;
+    let mut k = 0;
+    while k < n {
+        least = unpaired_at(text, table, k, least);
+        k += 3;
+    }
+    least
+}
+
+// Does the name at node k repeat one of those from the node `first` on that stand before it?
+fn repeats(text: &[u8], table: &[u32], first: usize, k: usize) -> bool
+    requires { ⌜ NameNode (now text) (now table) first k ⌝ }
+    ensures { λ r. ⌜ Repeats (now (text .entry)) (now (table .entry)) first k r ⌝ }
+{
+    let from = start(table, k);
+    let to = end(table, k);
+    let mut j = first;
+    while j < k {
+        let from2 = start(table, j);
+        let to2 = end(table, j);
+        if strings::same_string(text, from2 + 1, to2 - 1, from + 1, to - 1) {
+            return true;
+        }
+        j = next(table, j + 3);
+    }
+    false
+}
+
+// Rule 6 at the name at node k: it repeats an earlier one, at the later name.
+fn repeat_at(text: &[u8], table: &[u32], first: usize, k: usize, best: u32) -> u32
+    requires { ⌜ NameNode (now text) (now table) first k ⌝ }
+    ensures { λ r. ⌜ RepeatGives (now (text .entry)) (now (table .entry)) first k best r ⌝ }
+{
+    if !repeats(text, table, first, k) {
+        return best;
+    }
+    let place = start(table, k);
+    lesser(best, fault_at(6, place))
+}
+
+// Rule 6 at a node, if an object stands there: among its names.
+fn repeated_in(text: &[u8], table: &[u32], i: usize, best: u32) -> u32
+    requires { ⌜ AnyPart (now text) (now table) i ⌝ }
+    ensures { λ r. ⌜ PartGives 6 own6 (now (text .entry)) (now (table .entry)) i best r ⌝ }
+{
+    let at = start(table, i);
+    if text[at] != b'{' {
+        return best;
+    }
+    let n = next(table, i);
+    let first = i + 3;
+    let mut least = best;
+    let mut k = first;
+    while k < n {
+        least = repeat_at(text, table, first, k, least);
+        k = next(table, k + 3);
+    }
+    least
+}
+
+// Rule 6 in the tree whose table has n words: in any object.
+pub fn repeated(text: &[u8], table: &[u32], n: usize, best: u32) -> u32
+    requires { ⌜ Root (now text) (now table) n ⌝ }
+    ensures { λ r. ⌜ Gives (λ v. least best (map (fault 6) (rule6 v))) (now (text .entry)) (now (table .entry)) 0 r ⌝ }
+{
+    let mut least = best;
+    let mut k = 0;
+    while k < n {
+        least = repeated_in(text, table, k, least);
+        k += 3;
+    }
+    least
+}
