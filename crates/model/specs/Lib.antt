@@ -1,0 +1,13 @@
+-- The city model (document 01's town), its reading from a tree, its sheet, and what the sheet tells.
+pub mod Code
+pub mod Model
+pub mod Read
+pub mod Good
+pub mod Fits
+pub mod Once
+pub mod Numbers
+pub mod Weigh
+pub mod Demand
+pub mod Worked
+pub mod Alike
+pub mod Size

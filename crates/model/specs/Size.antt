@@ -1,0 +1,309 @@
+-- A sheet is at most 73 times as long as its text, and 78 bytes.
+use mathlib.Core.Path.{_≡_, refl, sym, ap, _∙_, subst}
+use mathlib.Core.Bool.{Bool, true, false, cond}
+use mathlib.Core.List.{List, [], _∷_, _++_, map}
+use mathlib.Core.Option.{Option, some, Option·map}
+use mathlib.Core.Option as option
+use Prim.Native.Nat.{ℕ, zero, suc, _+_, _-_, _*_, _^_, _≤_, _<_}
+use native.Mathlib.Omega.{arith}
+use Prim.Native.String.{String}
+use lib.ListN.{length, getD, length-append, length-map}
+use lib.Dec.{eqb}
+use lib.IntN.{ℤ, pos, negsuc}
+use Rattle.model.specs.Code.{le, signed, each}
+use Rattle.numerals.specs.Numerals.{Decimal}
+use Rattle.words.specs.Words.{depth, valuesDepth}
+use Rattle.model.specs.Model.{Nest, Three, Lod, Surface, Semantics, Geometry, Object, Model, Rec, rec}
+use Rattle.model.specs.Model as Model
+use Rattle.utf8.specs.Utf8.{same}
+use Rattle.model.specs.Model.{layRec, layThree, layDecimal, lodCode, layNest, layValue, layValues, laySurface, surfaceRecs, semanticsRecs, geometryRecs, objectRecs, modelRecs, layModel, numberObject, numberModel, idsOf, sheetOf}
+use Rattle.utf8.specs.Ascii.{ascii}
+use Rattle.words.specs.Words.{codeOf, geometryWords, objectWords, surfaceWords}
+use Rattle.strings.specs.Strings.{decode}
+use Rattle.json.specs.Tree.{Json, null, bool, num, str, arr, obj, Items, none, _▸_, Members, empty, member, Name}
+use Rattle.nodes.specs.Access.{Member, listed, pairs, elements, members, nameOf, textOf, firstNamed, find}
+use Rattle.model.specs.Read.{get, orNull, decimalOf, integerOf, indexOf, valueOf, threeOf, nestOf, lodOf, surfaceNamed, surfaceOf, semanticsOf, geometryOf, objectOf, modelOf}
+use Rattle.model.specs.Weigh.{length-le, length-signed, each-each, length-rec, weight, weight-cons, weight-append}
+
+-- how many bytes a value takes in a text, at the least
+unfoldable mutual
+  pub size : Json → ℕ
+  size (null p e) = 1
+  size (bool p e b) = 1
+  size (num p e raw) = 1
+  size (str p e raw) = suc (length (decode raw))
+  size (arr p e vs) = suc (sizes vs)
+  size (obj p e ms) = suc (weights ms)
+
+  pub sizes : Items → ℕ
+  sizes none = 0
+  sizes (j ▸ v) = size j + sizes v
+
+  pub weights : Members → ℕ
+  weights empty = 0
+  weights (member n j m) = length (decode (n .raw)) + size j + weights m
+
+total : {A : Type 0} → (A → ℕ) → List A → ℕ
+total f [] = 0
+total f (a ∷ l) = f a + total f l
+
+memberSize : Member → ℕ
+memberSize m = length (nameOf m) + size (m .1)
+
+size-pos : (j : Json) → 1 ≤ size j
+unfolding size
+size-pos (null p e) = omega arith
+size-pos (bool p e b) = omega arith
+size-pos (num p e raw) = omega arith
+size-pos (str p e raw) = omega arith
+size-pos (arr p e v) = omega arith
+size-pos (obj p e m) = omega arith
+
+listed-size : (v : Items) → total size (listed v) ≤ sizes v
+unfolding size total listed
+listed-size none = omega arith
+listed-size (j ▸ v) = omega (arith, listed-size v)
+
+pairs-size : (m : Members) → total memberSize (pairs m) ≤ weights m
+unfolding size total pairs memberSize nameOf
+pairs-size empty = omega arith
+pairs-size (member n j m) = omega (arith, pairs-size m)
+
+elements-size : (j : Json) → total size (elements j) < size j
+unfolding size elements total
+elements-size (null p e) = omega arith
+elements-size (bool p e b) = omega arith
+elements-size (num p e raw) = omega arith
+elements-size (str p e raw) = omega arith
+elements-size (arr p e v) = omega (arith, listed-size v)
+elements-size (obj p e m) = omega arith
+
+members-size : (j : Json) → total memberSize (members j) < size j
+unfolding size members total
+members-size (null p e) = omega arith
+members-size (bool p e b) = omega arith
+members-size (num p e raw) = omega arith
+members-size (str p e raw) = omega arith
+members-size (arr p e v) = omega arith
+members-size (obj p e m) = omega (arith, pairs-size m)
+
+text-size : (j : Json) → length (textOf j) ≤ size j
+unfolding size textOf
+text-size (null p e) = omega arith
+text-size (bool p e b) = omega arith
+text-size (num p e raw) = omega arith
+text-size (str p e raw) = omega arith
+text-size (arr p e v) = omega arith
+text-size (obj p e m) = omega arith
+
+-- the size of what is found, or 0
+found : Option Json → ℕ
+found option.none = 0
+found (some j) = size j
+
+found-cond : (b : Bool) (j : Json) (o : Option Json) (n : ℕ) → size j ≤ n → found o ≤ n → found (cond b (some j) o) ≤ n
+unfolding found
+found-cond true j o n h k = h
+found-cond false j o n h k = k
+
+first-size : (name : List ℕ) (l : List Member) → found (firstNamed name l) ≤ total memberSize l
+unfolding firstNamed total memberSize found
+first-size name [] = omega arith
+first-size name (m ∷ l) = found-cond (same name (nameOf m)) (m .1) (firstNamed name l) _ (omega arith) (omega (arith, first-size name l))
+
+find-size : (n : String) (j : Json) → found (find n j) < size j
+unfolding find
+find-size n j = omega (arith, first-size (ascii n) (members j), members-size j)
+
+orNull-size : (o : Option Json) (n : ℕ) → 1 ≤ n → found o ≤ n → size (orNull o) ≤ n
+unfolding orNull found size
+orNull-size option.none n h k = h
+orNull-size (some j) n h k = k
+
+get-size : (n : String) (j : Json) → size (get n j) ≤ size j
+unfolding get
+get-size n j = orNull-size (find n j) (size j) (size-pos j) (omega (arith, find-size n j))
+
+-- ---- lengths
+
+count-size : (l : List Json) → length l ≤ total size l
+unfolding total
+count-size [] = omega arith
+count-size (j ∷ l) = omega (arith, size-pos j, count-size l)
+
+each-bound : {A T : Type 0} (enc : A → List T) (f : A → ℕ) (c : ℕ) → ((a : A) → length (enc a) ≤ c * f a) → (l : List A) → length (each enc l) ≤ c * total f l
+unfolding each total
+each-bound enc f c h [] = omega arith
+each-bound enc f c h (a ∷ l) = omega (arith, length-append (enc a) (each enc l), h a, each-bound enc f c h l)
+
+each-map : {A B T : Type 0} (enc : B → List T) (f : A → B) (l : List A) → each enc (map f l) ≡ each (λ a. enc (f a)) l
+unfolding each
+each-map enc f [] = refl
+each-map enc f (a ∷ l) = ap (λ r. enc (f a) ++ r) (each-map enc f l)
+
+words-length : (l : List ℕ) → length (each (le 4) l) ≤ 4 * length l
+unfolding each
+words-length [] = omega arith
+words-length (n ∷ l) = omega (arith, length-append (le 4 n) (each (le 4) l), length-le 4 n, words-length l)
+
+nest-length : (d : ℕ) (j : Json) → length (layNest d (nestOf indexOf d j)) ≤ 4 * size j
+unfolding layNest nestOf
+nest-length zero j = omega (arith, length-le 4 (indexOf j), size-pos j)
+nest-length (suc d) j =
+    let l = map (nestOf indexOf d) (elements j) in
+    let e = ap length (each-map (layNest d) (nestOf indexOf d) (elements j)) in
+    let b = each-bound (λ k. layNest d (nestOf indexOf d k)) size 4 (nest-length d) (elements j) in
+    omega (arith, length-append (le 4 (length l)) (each (layNest d) l), length-le 4 (length l), elements-size j)
+
+value-length : (v : Option ℕ) → length (layValue v) ≡ 4
+unfolding layValue
+value-length option.none = length-le 4 _
+value-length (some n) = length-le 4 n
+
+values-length : (d : ℕ) (j : Json) → length (layValues d (nestOf valueOf d j)) ≤ 4 * size j
+unfolding layValues nestOf
+values-length zero j = omega (arith, value-length (valueOf j), size-pos j)
+values-length (suc d) j =
+    let e = ap length (each-map (layValues d) (nestOf valueOf d) (elements j)) in
+    let b = each-bound (λ k. layValues d (nestOf valueOf d k)) size 4 (values-length d) (elements j) in
+    omega (arith, elements-size j)
+
+surface-cond : (b : Bool) (w : List ℕ) (c : ℕ) → length (laySurface (cond b (Model.added w) (Model.listed c))) ≤ 2 + length w
+unfolding laySurface
+surface-cond true w c = omega (arith, length-append (le 2 19) w, length-le 2 19)
+surface-cond false w c = omega (arith, length-le 2 c)
+
+surface-weight : (j : Json) → weight (surfaceRecs (surfaceOf j)) ≤ 9 * size j
+unfolding surfaceRecs surfaceOf surfaceNamed weight each
+surface-weight j =
+    let t = textOf (get "type" j) in
+    let s = surfaceNamed t in
+    omega (arith, weight-cons 7 (laySurface s) [], surface-cond (eqb (getD t 0 0) 43) t (codeOf surfaceWords t), text-size (get "type" j), get-size "type" j, size-pos j)
+
+-- the weight of what a list of parts gives
+weight-bound : {A B : Type 0} (recs : B → List Rec) (read : A → B) (f : A → ℕ) (c : ℕ) → ((a : A) → weight (recs (read a)) ≤ c * f a)
+    → (l : List A) → weight (each recs (map read l)) ≤ c * total f l
+unfolding weight
+weight-bound recs read f c h l =
+    omega (arith, ap length (each-each recs layRec (map read l)), ap length (each-map (λ b. each layRec (recs b)) read l), each-bound (λ a. each layRec (recs (read a))) f c h l)
+
+semantics-weight : (c : ℕ) (o : Option Json) → weight (semanticsRecs c (Option·map (semanticsOf c) o)) ≤ 19 * found o
+unfolding semanticsRecs semanticsOf found weight each
+semantics-weight c option.none = omega arith
+semantics-weight c (some j) =
+    let ss = elements (get "surfaces" j) in
+    let p = layValues (valuesDepth c) (nestOf valueOf (valuesDepth c) (get "values" j)) in
+    omega (
+      arith,
+      weight-append (each surfaceRecs (map surfaceOf ss)) (rec 8 p ∷ []),
+      weight-cons 8 p [],
+      weight-bound surfaceRecs surfaceOf size 9 surface-weight ss,
+      elements-size (get "surfaces" j),
+      get-size "surfaces" j,
+      values-length (valuesDepth c) (get "values" j),
+      get-size "values" j,
+      size-pos j,
+    )
+
+geometry-weight : (j : Json) → weight (geometryRecs (geometryOf j)) ≤ 33 * size j
+unfolding geometryRecs geometryOf
+geometry-weight j =
+    let g = geometryOf j in
+    let c = g .code in
+    let a = le 2 c in
+    let l = le 2 (lodCode (g .lod)) in
+    let b = layNest (depth c) (nestOf indexOf (depth c) (get "boundaries" j)) in
+    omega (
+      arith,
+      weight-cons 6 (a ++ l ++ b) (semanticsRecs c (g .semantics)),
+      length-append (a ++ l) b,
+      length-append a l,
+      length-le 2 c,
+      length-le 2 (lodCode (g .lod)),
+      nest-length (depth c) (get "boundaries" j),
+      get-size "boundaries" j,
+      semantics-weight c (find "semantics" j),
+      find-size "semantics" j,
+      size-pos j,
+    )
+
+links-length : (ids : List (List ℕ)) (n : String) (j : Json) → length (each (le 4) (map (Model.numberOf ids) (map textOf (elements (get n j))))) ≤ 4 * size j
+links-length ids n j =
+    let l = elements (get n j) in
+    omega (arith, words-length (map (Model.numberOf ids) (map textOf l)), length-map (map textOf l) (Model.numberOf ids), length-map l textOf, count-size l, elements-size (get n j), get-size n j)
+
+object-weight : (ids : List (List ℕ)) (m : Member) → weight (objectRecs (numberObject ids (objectOf m))) ≤ 61 * memberSize m
+unfolding objectRecs numberObject objectOf memberSize
+object-weight ids m =
+    let j = m .1 in
+    let o = numberObject ids (objectOf m) in
+    let g = each geometryRecs (o .geometries) in
+    let k = elements (get "geometry" j) in
+    let a = each (le 4) (o .children) in
+    let b = each (le 4) (o .parents) in
+    omega (
+      arith,
+      weight-cons 3 (le 2 (o .code) ++ nameOf m) (rec 4 a ∷ rec 5 b ∷ g),
+      weight-cons 4 a (rec 5 b ∷ g),
+      weight-cons 5 b g,
+      length-append (le 2 (o .code)) (nameOf m),
+      length-le 2 (o .code),
+      links-length ids "children" j,
+      links-length ids "parents" j,
+      weight-bound geometryRecs geometryOf size 33 geometry-weight k,
+      elements-size (get "geometry" j),
+      get-size "geometry" j,
+      size-pos j,
+    )
+
+three-length : (t : Three ℤ) → length (layThree (signed 4) t) ≡ 12
+unfolding layThree
+three-length t = simp (length-append, length-signed)
+
+decimals-length : (t : Three Decimal) → length (layThree layDecimal t) ≡ 30
+unfolding layThree layDecimal
+decimals-length t = simp (length-append, length-signed)
+
+vertices-length : (l : List (Three ℤ)) → length (each (layThree (signed 4)) l) ≡ 12 * length l
+unfolding each
+vertices-length [] = refl
+vertices-length (v ∷ l) = omega (arith, length-append (layThree (signed 4) v) (each (layThree (signed 4)) l), three-length v, vertices-length l)
+
+-- numbers for links, done as the objects are read
+number-map : (ids : List (List ℕ)) (l : List Member) → map (numberObject ids) (map objectOf l) ≡ map (λ m. numberObject ids (objectOf m)) l
+number-map ids [] = refl
+number-map ids (m ∷ l) = ap (λ r. numberObject ids (objectOf m) ∷ r) (number-map ids l)
+
+pub sheet-short : (j : Json) → length (sheetOf (modelOf j)) ≤ 78 + 73 * size j
+unfolding sheetOf layModel modelRecs numberModel modelOf weight each
+sheet-short j =
+    let t = modelOf j in
+    let ids = idsOf (t .objects) in
+    let ms = members (get "CityObjects" j) in
+    let vs = elements (get "vertices" j) in
+    let six = layThree layDecimal (t .scale) ++ layThree layDecimal (t .translate) in
+    let points = each (layThree (signed 4)) (t .vertices) in
+    let objects = each objectRecs (map (numberObject ids) (map objectOf ms)) in
+    omega (
+      arith,
+      weight-cons 1 six (rec 2 points ∷ (objects ++ rec 9 [] ∷ [])),
+      weight-cons 2 points (objects ++ rec 9 [] ∷ []),
+      weight-append objects (rec 9 [] ∷ []),
+      weight-cons 9 [] [],
+      length-append (layThree layDecimal (t .scale)) (layThree layDecimal (t .translate)),
+      decimals-length (t .scale),
+      decimals-length (t .translate),
+      vertices-length (t .vertices),
+      length-map vs (threeOf integerOf),
+      count-size vs,
+      elements-size (get "vertices" j),
+      get-size "vertices" j,
+      ap (λ l. weight (each objectRecs l)) (number-map ids ms),
+      weight-bound objectRecs (λ m. numberObject ids (objectOf m)) memberSize 61 (object-weight ids) ms,
+      members-size (get "CityObjects" j),
+      get-size "CityObjects" j,
+    )
+
+-- so every accepted text's sheet is shorter than 2^32 bytes
+pub short-enough : (j : Json) → size j ≤ 65535 → length (sheetOf (modelOf j)) < 2 ^ 32
+short-enough j h = omega (arith, sheet-short j)

@@ -1,0 +1,238 @@
+-- Filling the index of the city objects. Assumes nothing.
+use Prim.Native.Nat.{ℕ, _+_, _-_, _*_, _^_, _≤_, _<_, min}
+use native.Mathlib.Omega.{arith}
+use native.Mathlib.Decide.{decLt}
+use mathlib.Core.Path.{_≡_, refl, sym, ap, _∙_, subst}
+use mathlib.Core.Logic.{_≢_}
+use mathlib.Core.Bool.{Bool, true, false, not}
+use mathlib.Core.Option.{Option, none, some}
+use borrow.Author.Tests.{not-true, not-false}
+use mathlib.Core.List.{List, [], _∷_, _++_, append-assoc, append-nil}
+use lib.ListN.{length, getD, set, drop, length-append, length-set, List·getD-append, drop-of-length-le}
+use lib.Seq.{drop-at, getD-set-same, getD-set-other, getD-append-seam}
+use Rattle.json.specs.Tree.{Json, Members}
+use Rattle.json.specs.Tree as tree
+use Rattle.json.specs.Table.{Sub}
+use Rattle.json.specs.Laws.{MembersLeft, MemberPast, member-past, member-over, members-ended}
+use Rattle.nodes.specs.Access.{isObjectValue, Member, pairs, members, find}
+use Rattle.nodes.specs.Says.{Node, Gives, GivesFound, Finds, Seeks}
+use Rattle.nodes.specs.Faults.{fault, least}
+use Rattle.nodes.specs.Laws.{StringAt, quoted-at, quoted-place, fields-begin, no-members}
+use Rattle.nodes.specs.declared.Found.{Found}
+use Rattle.nodes.specs.declared.Found.the-variants.{At, Nothing}
+use Rattle.fields.specs.Says.{MemberAt, Indexed}
+use Rattle.shapes.specs.Checks.{Check, all, on, at, needs, isObject, eachMember}
+use Rattle.shapes.specs.Says.{Needs}
+use Rattle.shapes.specs.Laws.{all-none, all-then, needs-none, needs-then, members-none, unless-told, unless-yes}
+use Rattle.fields.specs.Fields.{membersIn, countIn, objectsOf}
+use Rattle.fields.specs.declared.Index.{Index}
+use Rattle.schema.specs.Schema.{nameFault, notTooMany, cityObject, cityObjects, word, transform, vertices, cityJson}
+use Rattle.schema.proofs.Objects.{at-gives}
+use Rattle.schema.specs.Says.{ObjectNode, Extra, Named, FillsAt, IndexedFound, IndexedAt}
+
+-- the members before the node k, which the first words of the index name
+pub record Done (x t offsets : List ℕ) (n k count : ℕ) (v : Json) : Type 0 where
+  pub done : List Member
+  pub left : MembersLeft x t k n (λ ms. members v ≡ done ++ pairs ms)
+  pub many : length done ≡ count
+  pub each : (j : ℕ) (d : Member) → j < count → MemberAt x t (getD offsets j 0) (getD done j d)
+
+-- what the loop knows at the node k
+pub record Filling (x t : List ℕ) (i n k : ℕ) (offsets : List ℕ) (count : ℕ) : Type 0 where
+  pub node : Node x t i
+  pub room : length offsets ≡ 1024
+  pub few : count ≤ 1024
+  pub left : (v : Json) → Sub x t i v → Done x t offsets n k count v
+
+-- members that the index names, before one more
+front : (x t offsets : List ℕ) (count : ℕ) (l done : List Member) (m : Member) (rest : List Member) → l ≡ done ++ m ∷ rest → length done ≡ count → count ≡ 1024 → length offsets ≡ 1024
+    → ((j : ℕ) (d : Member) → j < count → MemberAt x t (getD offsets j 0) (getD done j d)) → Indexed x t l (record { offsets = offsets; count = count })
+front x t offsets count l done m rest e many h room each = record {
+  room = room;
+  count = omega (arith, ap length e, length-append done (m ∷ rest));
+  each = λ j d r. rw (e, List·getD-append done (m ∷ rest) d j (omega arith)) (each j d r);
+}
+
+pub fill-begin : {x t : List ℕ} {i n : ℕ} (offsets : List ℕ) → length offsets ≡ 1024 → ObjectNode x t i → n ≡ getD t (i + 2) 0 → Filling x t i n (i + 3) offsets 0
+fill-begin offsets l d q = record {
+  node = d .node;
+  room = l;
+  few = omega arith;
+  left = λ v s. record { done = []; left = rw q (fields-begin (λ ms. members v ≡ [] ++ ms) s (sym (d .is .is v s)) refl); many = refl; each = λ j e h. absurd (omega arith) };
+}
+
+module _ {x t : List ℕ} {i n k : ℕ} {offsets : List ℕ} {count : ℕ} (f : Filling x t i n k offsets count) where
+  here : k < n → MemberPast x t k n (λ ms. members (f .node .value) ≡ f .left (f .node .value) (f .node .stands) .done ++ pairs ms)
+  here l = member-past (f .left (f .node .value) (f .node .stands) .left) l
+
+  pub fill-room : k < n → k + 3 + 2 < length t
+  fill-room l = here l .word .room
+
+  pub fill-less : {m : ℕ} → k < n → m ≡ getD t (k + 3 + 2) 0 → n - m < n - k
+  fill-less l q = let u = here l in omega (arith, u .more, u .within)
+
+  -- one member more
+  pub fill-turn : {m : ℕ} → k < n → (count ≡ 1024 → ⊥) → m ≡ getD t (k + 3 + 2) 0 → Filling x t i n m (set offsets count k) (count + 1)
+  unfolding pairs
+  fill-turn {m} l h q = record {
+    node = f .node;
+    room = length-set offsets count k ∙ f .room;
+    few = omega (arith, f .few);
+    left = λ v s. one v s (f .left v s);
+  }
+    where
+      one : (v : Json) → Sub x t i v → Done x t offsets n k count v → Done x t (set offsets count k) n m (count + 1) v
+      one v s d =
+          let u = member-past (d .left) l in
+          let new : Member = (u .key, u .value) in
+          record {
+            done = d .done ++ (new ∷ []);
+            left = rw q (member-over u (u .holds ∙ sym (append-assoc (d .done) (new ∷ []) (pairs (u .others)))));
+            many = length-append (d .done) (new ∷ []) ∙ ap (λ a. a + 1) (d .many);
+            each = λ j e r. at j e r (decLt j count);
+          }
+        where
+          at : (j : ℕ) (e : Member) → j < count + 1 → Dec (j < count) → MemberAt x t (getD (set offsets count k) j 0) (getD (d .done ++ ((member-past (d .left) l .key, member-past (d .left) l .value) ∷ [])) j e)
+          at j e r (yes w) =
+              let z : j ≢ count = λ y. omega arith in
+              rw (getD-set-other offsets count j k 0 z, List·getD-append (d .done) ((member-past (d .left) l .key, member-past (d .left) l .value) ∷ []) e j (omega (arith, d .many))) (d .each j e w)
+          at j e r (no w) =
+              let y : j ≡ count = omega arith in
+              let u = member-past (d .left) l in
+              rw (y, getD-set-same offsets count k 0 (omega (arith, f .room, f .few)), sym (d .many), getD-append-seam (d .done) (u .key, u .value) [] e) (record { name = u .quoted; value = u .stands })
+
+  -- the 1,025th member
+  pub fill-stop : k < n → count ≡ 1024 → FillsAt x t i (record { offsets = offsets; count = count }) (At k)
+  unfolding pairs Extra
+  fill-stop l h = record { indexed = λ v s. all v (f .left v s); more = λ v s. next v (f .left v s) }
+    where
+      all : (v : Json) → Done x t offsets n k count v → Indexed x t (members v) (record { offsets = offsets; count = count })
+      all v d = let u = member-past (d .left) l in front x t offsets count (members v) (d .done) (u .key, u .value) (pairs (u .others)) (u .holds) (d .many) h (f .room) (d .each)
+
+      next : (v : Json) → Done x t offsets n k count v → Extra x t (drop 1024 (members v)) (At k)
+      next v d =
+          let u = member-past (d .left) l in
+          let new : Member = (u .key, u .value) in
+          (new, pairs (u .others), ap (drop 1024) (u .holds) ∙ drop-at (d .done) (new ∷ pairs (u .others)) 1024 (d .many ∙ h), record { name = u .quoted; value = u .stands })
+
+  -- no more members
+  pub fill-done : n ≤ k → FillsAt x t i (record { offsets = offsets; count = count }) Nothing
+  unfolding pairs Extra
+  fill-done l = record { indexed = λ v s. all v (f .left v s); more = λ v s. next v (f .left v s) }
+    where
+      whole : (v : Json) (d : Done x t offsets n k count v) → members v ≡ d .done
+      whole v d = members-ended (d .left) l ∙ append-nil (d .done)
+
+      all : (v : Json) → Done x t offsets n k count v → Indexed x t (members v) (record { offsets = offsets; count = count })
+      all v d = record { room = f .room; count = omega (arith, ap length (whole v d), d .many, f .few); each = λ j e r. rw (whole v d) (d .each j e r) }
+
+      next : (v : Json) → Done x t offsets n k count v → Extra x t (drop 1024 (members v)) Nothing
+      next v d = drop-of-length-le (members v) {i = 1024} (omega (arith, ap length (whole v d), d .many, f .few))
+
+-- ---- rule 9
+
+-- nothing is too many
+pub few-enough : (x t : List ℕ) (best : ℕ) {extra : Found} → extra ≡ Nothing → (ms : List Member) → Extra x t ms extra → best ≡ least best (nameFault ms)
+unfolding Extra nameFault least
+few-enough x t best e ms h = let z : ms ≡ [] = subst (Extra x t ms) e h in rw z
+
+module _ {x t : List ℕ} {k : ℕ} {extra : Found} (n : Named x t extra) (e : extra ≡ At k) where
+  named : (m : Member) × StringAt x t k (m .0 .raw)
+  unfolding Extra
+  named = let (m, rest, q, a) : Extra x t (n .members) (At k) = subst (Extra x t (n .members)) e (n .extra) in (m, quoted-at (a .name))
+
+  pub name-first : k < length t
+  name-first = omega (arith, named .1 .room)
+
+  pub name-low : {p : ℕ} → p ≡ getD t k 0 → p ≤ 65535
+  name-low q = omega (arith, named .1 .fits, n .short)
+
+pub one-more : (x t : List ℕ) (best : ℕ) {k p f r : ℕ} {extra : Found} → extra ≡ At k → p ≡ getD t k 0 → f ≡ fault 9 p → r ≡ min best f → (ms : List Member) → Extra x t ms extra → r ≡ least best (nameFault ms)
+unfolding Extra nameFault least
+one-more x t best e q g h ms d =
+    let (m, rest, z, a) : Extra x t ms (At _) = subst (Extra x t ms) e d in
+    rw (z, quoted-place (a .name), sym q, sym g) h
+
+-- ---- the city objects
+
+-- no members have an empty index
+none-indexed : (x t : List ℕ) (l : List Member) (offsets : List ℕ) → length offsets ≡ 1024 → l ≡ [] → Indexed x t l (record { offsets = offsets; count = 0 })
+none-indexed x t l offsets h e = record { room = h; count = rw e; each = λ k d r. absurd (omega arith) }
+
+pub nothing-indexed : {x t : List ℕ} {found : Found} (offsets : List ℕ) → length offsets ≡ 1024 → found ≡ Nothing → IndexedFound x t found (record { offsets = offsets; count = 0 })
+unfolding Finds membersIn
+nothing-indexed {x} {t} offsets h e = record { is = λ o f. let z : o ≡ none = subst (Finds x t o) e f in none-indexed x t (membersIn o) offsets h (ap membersIn z) }
+
+pub other-indexed : {x t : List ℕ} {found : Found} {k : ℕ} {b : Bool} (offsets : List ℕ) → length offsets ≡ 1024 → found ≡ At k → Gives isObjectValue x t k b → not b ≡ true → IndexedFound x t found (record { offsets = offsets; count = 0 })
+unfolding Finds membersIn
+other-indexed {x} {t} {b = b} offsets h e g n = record { is = λ o f. let (v, p, s) : Finds x t o (At _) = subst (Finds x t o) e f in none-indexed x t (membersIn o) offsets h (ap membersIn p ∙ no-members v (sym (g .is v s) ∙ not-true b n)) }
+
+pub filled-indexed : {x t : List ℕ} {found extra : Found} {k : ℕ} {index : Index} → found ≡ At k → FillsAt x t k index extra → IndexedFound x t found index
+unfolding Finds membersIn
+filled-indexed {x} {t} {index = index} e f = record { is = λ o h. let (v, p, s) : Finds x t o (At _) = subst (Finds x t o) e h in subst (λ (q : Option Json). Indexed x t (membersIn q) index) (sym p) (f .indexed v s) }
+
+-- an object at a node, where the test said so
+pub object-node : {x t : List ℕ} {i : ℕ} {b : Bool} → Node x t i → Gives isObjectValue x t i b → not b ≡ false → ObjectNode x t i
+object-node {b = b} d g h = record { node = d; is = rw (not-false b h) at g }
+
+pub extra-named : {x t : List ℕ} {i : ℕ} {index : Index} {extra : Found} → Node x t i → FillsAt x t i index extra → Named x t extra
+extra-named d f = record { members = drop 1024 (members (d .value)); extra = f .more (d .value) (d .stands); short = d .short }
+
+module _ {x t : List ℕ} {i : ℕ} {b : Bool} (n best : ℕ) (g : Gives isObjectValue x t i b) where
+  -- another value
+  pub objects-other : {r : ℕ} → not b ≡ true → Gives (λ v. least best (isObject v)) x t i r → Gives (λ v. least best (cityObjects n v)) x t i r
+  unfolding cityObjects notTooMany nameFault least
+  objects-other {r} e u =
+      all-then best r isObject (notTooMany ∷ eachMember (cityObject n) ∷ []) u
+      (all-then r r notTooMany (eachMember (cityObject n) ∷ []) (record { is = λ v s. few v (no-members v (sym (g .is v s) ∙ not-true b e)) })
+      (all-then r r (eachMember (cityObject n)) [] (members-none (cityObject n) r g e) all-none))
+    where
+      few : (v : Json) → members v ≡ [] → r ≡ least r (notTooMany v)
+      few v z = rw z
+
+  -- an object
+  pub objects-told : {a r : ℕ} {index : Index} {extra : Found} → not b ≡ false → FillsAt x t i index extra → ((ms : List Member) → Extra x t ms extra → a ≡ least best (nameFault ms))
+      → Gives (λ v. least a (eachMember (cityObject n) v)) x t i r → Gives (λ v. least best (cityObjects n v)) x t i r
+  unfolding cityObjects notTooMany isObject
+  objects-told {a} {r} e f m h =
+      all-then best best isObject (notTooMany ∷ eachMember (cityObject n) ∷ []) (unless-told best 7 g (unless-yes best 7 (not-false b e)))
+      (all-then best a notTooMany (eachMember (cityObject n) ∷ []) (record { is = λ v s. m (drop 1024 (members v)) (f .more v s) })
+      (all-then a r (eachMember (cityObject n)) [] h all-none))
+
+-- ---- the root
+
+-- the checks of a root with so many vertices
+unfoldable rootWith : ℕ → Check
+rootWith n =
+    all (isObject ∷ needs ("type" ∷ "version" ∷ "transform" ∷ "CityObjects" ∷ "vertices" ∷ [])
+    ∷ at "type" (word "CityJSON") ∷ at "version" (word "2.0") ∷ at "transform" transform ∷ at "CityObjects" (cityObjects n) ∷ at "vertices" vertices ∷ [])
+
+root-with : (v : Json) → rootWith (countIn (find "vertices" v)) v ≡ cityJson v
+unfolding rootWith cityJson
+root-with v = refl
+
+pub root-all : {x t : List ℕ} (best a b c d e f g h l m : ℕ) {count r : ℕ} {kind version frame objects points : Found}
+    → Seeks (λ v. find "type" v) x t 0 kind → Seeks (λ v. find "version" v) x t 0 version → Seeks (λ v. find "transform" v) x t 0 frame → Seeks (λ v. find "CityObjects" v) x t 0 objects → Seeks (λ v. find "vertices" v) x t 0 points
+    → Gives (λ v. least best (isObject v)) x t 0 a → Needs x t kind 0 a b → Needs x t version 0 b c → Needs x t frame 0 c d → Needs x t objects 0 d e → Needs x t points 0 e f
+    → GivesFound (λ o. least f (on (word "CityJSON") o)) x t kind g → GivesFound (λ o. least g (on (word "2.0") o)) x t version h → GivesFound (λ o. least h (on transform o)) x t frame l
+    → GivesFound countIn x t points count → GivesFound (λ o. least l (on (cityObjects count) o)) x t objects m → GivesFound (λ o. least m (on vertices o)) x t points r
+    → Gives (λ v. least best (cityJson v)) x t 0 r
+unfolding rootWith
+root-all {x} {t} best a b c d e f g h l m {count} {r} k1 k2 k3 k4 k5 o n1 n2 n3 n4 n5 w1 w2 tr cn co ve =
+    record { is = λ v j. whole .is v j ∙ ap (λ (n : ℕ). least best (rootWith n v)) (cn .is (find "vertices" v) (k5 .finds v j)) ∙ ap (least best) (root-with v) }
+  where
+    whole : Gives (λ v. least best (rootWith count v)) x t 0 r
+    whole =
+        all-then best a isObject _ o
+        (all-then a f (needs ("type" ∷ "version" ∷ "transform" ∷ "CityObjects" ∷ "vertices" ∷ [])) _
+        (needs-then a b "type" _ k1 n1 (needs-then b c "version" _ k2 n2 (needs-then c d "transform" _ k3 n3 (needs-then d e "CityObjects" _ k4 n4 (needs-then e f "vertices" [] k5 n5 needs-none)))))
+        (all-then f g (at "type" (word "CityJSON")) _ (at-gives f "type" (word "CityJSON") k1 w1)
+        (all-then g h (at "version" (word "2.0")) _ (at-gives g "version" (word "2.0") k2 w2)
+        (all-then h l (at "transform" transform) _ (at-gives h "transform" transform k3 tr)
+        (all-then l m (at "CityObjects" (cityObjects count)) _ (at-gives l "CityObjects" (cityObjects count) k4 co)
+        (all-then m r (at "vertices" vertices) [] (at-gives m "vertices" vertices k5 ve) all-none))))))
+
+-- the index of the city objects
+pub root-indexed : {x t : List ℕ} {objects : Found} {index : Index} → Seeks (λ v. find "CityObjects" v) x t 0 objects → IndexedFound x t objects index → IndexedAt x t index
+unfolding objectsOf
+root-indexed k i = record { is = λ v s. i .is (find "CityObjects" v) (k .finds v s) }

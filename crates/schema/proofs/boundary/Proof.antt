@@ -1,0 +1,17 @@
+-- `schema::boundary` meets its contract. Assumes nothing.
+use Rattle.schema.specs.Schema.{boundaries}
+use Rattle.schema.proofs.GeometryLaws.{geometric, found-none, found-some, boundary-none, boundary-is}
+use Rattle.schema.proofs.boundary.Statement.{statement}
+use Rattle.schema.proofs.boundary.Tie as tie
+
+returns : tie.Need-returns
+returns c = found-none _ (boundaries _ _) (c .enum-told .given .1)
+
+returns-2 : tie.Need-returns-2
+returns-2 c = found-some _ (boundaries _ _) (c .before .before .before .found .given .1) (boundary-none _ _ _ (c .before .array .ensures) (c .if1 .taken))
+
+returns-3 : tie.Need-returns-3
+returns-3 c = found-some _ (boundaries _ _) (c .before .before .before .before .before .before .before .found .given .1) (boundary-is _ _ _ (c .before .before .before .before .before .array .ensures) (c .before .before .before .before .if1 .left) (c .before .before .before .depth-of .ensures) (c .before .before .shaped .ensures) (c .before .depth-of2 .ensures) (c .near .ensures))
+
+pub boundary-spec : {M : Type 1} → statement M
+boundary-spec = tie.close (tie.spec (λ c. search geometric) (λ c. search geometric) returns (λ c κs. search geometric) returns-2 (λ c κs. search geometric) (λ c κs. search geometric) (λ c κs. search geometric) (λ c κs. search geometric) returns-3)

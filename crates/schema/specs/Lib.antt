@@ -1,0 +1,3 @@
+-- Rules 7 to 14 of document 01 as a schema.
+pub mod Schema
+pub mod Says

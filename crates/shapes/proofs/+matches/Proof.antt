@@ -1,0 +1,67 @@
+-- `shapes::matches` meets its contract. The measure is the depth. Assumes nothing.
+use Prim.Native.Nat.{ℕ, _-_, _<_}
+use borrow.Fn.Kinds.{In}
+use borrow.Fn.PlainCycle.{Measures, is, falls, and}
+use Rattle.shapes.specs.Shapes as shape
+use Rattle.shapes.proofs.Both.{Both, both-begin, both-first, both-second, both-less, both-turn, matches-leaf, matches-kind, matches-count, matches-each, both-done}
+use Rattle.shapes.proofs.Rules.{shapes}
+use Rattle.shapes.proofs.matches.Reads as matches
+use Rattle.shapes.proofs.matches.Kinds as kinds
+use Rattle.shapes.proofs.+matches.Lts-matches as lts
+use Rattle.shapes.proofs.is_value.Reads as is-value-reads
+use Rattle.shapes.proofs.unless.Reads as unless-reads
+use Rattle.nodes.proofs.is_array.Reads as is-array-reads
+use Rattle.nodes.proofs.count.Reads as count-reads
+use Rattle.nodes.proofs.next.Reads as next-reads
+use Rattle.shapes.proofs.+matches.{statement}
+use Rattle.shapes.proofs.+matches.Tie.{close}
+
+abbrev μ : Measures 2 kinds.ps ℕ
+μ κs a = a .1 .1 .1 .1 .0
+
+abbrev now-at : ℕ → In 2 kinds.ps
+now-at t = and 2 kinds.ps (is 2 kinds.ps μ t) matches.Pre
+
+abbrev below : ℕ → In 2 kinds.ps
+below t = and 2 kinds.ps (falls 2 kinds.ps _<_ μ t) matches.Pre
+
+-- what is known of the functions that it calls
+abbrev calls : ℕ → lts.Claims
+calls t = (is-value-reads.Asked, is-value-reads.Learnt, unless-reads.Asked, unless-reads.Learnt, is-array-reads.Asked, is-array-reads.Learnt, count-reads.Asked, count-reads.Learnt, next-reads.Asked, next-reads.Learnt, below t, matches.Post)
+
+abbrev Inv : lts.InvT-loop
+Inv text table b v depth best n least₀ j₀ k₀ least j k = Both (shape.matches (depth - 1)) text table b v best n j k least
+
+abbrev μ-loop : lts.MeasureT-loop
+μ-loop text table b v depth best n least₀ j₀ k₀ least j k = n - k
+
+module _ (t : ℕ) where
+  returns : lts.Need-returns (calls t) (now-at t) matches.Post Inv μ-loop
+  returns c = matches-leaf _ _ (c .before .before .if1 .taken) (c .before .is-value .ensures) (c .unless .ensures)
+
+  returns-2 : lts.Need-returns-2 (calls t) (now-at t) matches.Post Inv μ-loop
+  returns-2 c = matches-kind _ _ (c .before .before .before .if1 .left) (c .before .before .is-array .ensures) (c .before .if2 .taken) (c .unless2 .ensures)
+
+  returns-3 : lts.Need-returns-3 (calls t) (now-at t) matches.Post Inv μ-loop
+  returns-3 c = matches-count _ _ (c .before .before .before .before .before .before .if1 .left) (c .before .before .before .before .before .is-array .ensures) (c .before .before .before .before .if2 .left) (c .before .before .before .count .ensures) (c .before .before .count2 .ensures) (c .before .if3 .taken) (c .unless3 .ensures)
+
+  loop-holds : lts.Need-loop-holds (calls t) (now-at t) matches.Post Inv μ-loop
+  loop-holds c = both-begin (search shapes) (c .before .before .before .before .before .is-array .ensures) (c .before .before .before .before .if2 .left) (c .before .before .before .count .ensures) (c .before .before .count2 .ensures) (c .before .if3 .left) (c .next .ensures)
+
+  next-requires-2 : lts.Need-next-requires-2 (calls t) (now-at t) matches.Post Inv μ-loop
+  next-requires-2 c κs = both-first (c .before .before .loop .inv) (c .before .loop-test .taken)
+
+  next-requires-3 : lts.Need-next-requires-3 (calls t) (now-at t) matches.Post Inv μ-loop
+  next-requires-3 c κs = both-second (c .before .before .before .loop .inv) (c .before .before .loop-test .taken)
+
+  loop-less : lts.Need-loop-less (calls t) (now-at t) matches.Post Inv μ-loop
+  loop-less c = both-less (c .before .before .before .before .loop .inv) (c .before .before .before .loop-test .taken) (c .next3 .ensures)
+
+  loop-again : lts.Need-loop-again (calls t) (now-at t) matches.Post Inv μ-loop
+  loop-again c = both-turn (c .before .before .before .before .loop .inv) (c .before .before .before .loop-test .taken) (c .before .before .matches .ensures) (c .before .next2 .ensures) (c .next3 .ensures)
+
+  returns-4 : lts.Need-returns-4 (calls t) (now-at t) matches.Post Inv μ-loop
+  returns-4 c = matches-each _ _ (c .before .before .before .before .before .before .before .before .if1 .left) (c .before .before .before .before .before .before .before .is-array .ensures) (c .before .before .before .before .before .before .if2 .left) (c .before .before .before .before .before .count .ensures) (c .before .before .before .before .count2 .ensures) (c .before .before .before .if3 .left) (both-done (c .before .loop .inv) (c .loop-test .left))
+
+pub +matches-spec : {M : Type 1} → statement M
++matches-spec = close μ λ t. lts.spec (calls t) (now-at t) matches.Post Inv μ-loop (λ c κs. search shapes) (λ c κs. search shapes) (returns t) (λ c κs. search shapes) (λ c κs. search shapes) (returns-2 t) (λ c κs. search shapes) (λ c κs. search shapes) (λ c κs. search shapes) (returns-3 t) (λ c κs. search shapes) (λ c. search shapes) (λ c. search shapes) (loop-holds t) (λ c. search shapes) (λ c κs. search shapes) (next-requires-2 t) (next-requires-3 t) (loop-less t) (loop-again t) (returns-4 t)

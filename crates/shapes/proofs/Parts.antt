@@ -1,0 +1,210 @@
+-- Integers, pairs and shapes at a node, from what the code's tests say. Assumes nothing.
+use Prim.Native.Nat.{ℕ, suc, zero, _+_, _-_, _<_, _≤_}
+use mathlib.Core.Path.{_≡_, refl, sym, ap, _∙_}
+use mathlib.Core.Bool.{Bool, true, false, not, _&&_, _||_}
+use mathlib.Core.List.{List, _++_}
+use native.Mathlib.Omega.{arith}
+use lib.ListN.{length, getD}
+use lib.Seq.{slice}
+use lib.Dec.{eqb}
+use borrow.Author.Tests.{not-true, not-false, ne-eqb, eq-eqb}
+use Rattle.numerals.specs.Numerals.{isInteger, integer, pairOf, fits32, isBelow}
+use Rattle.numerals.specs.Reading.{pairIn}
+use Rattle.numerals.specs.declared.Numeral.{Numeral}
+use Rattle.numerals.specs.declared.Numeral.the-variants.{Pair, Out}
+use Rattle.json.specs.Tree.{Json}
+use Rattle.json.specs.Table.{Sub}
+use Rattle.json.specs.Laws.{Left, Past, past, over, ended}
+use Rattle.nodes.specs.Access.{isNullValue, isNumberValue, isArrayValue, listed, elements}
+use Rattle.nodes.specs.Faults.{least}
+use Rattle.nodes.specs.Says.{Node, Gives}
+use Rattle.nodes.specs.Laws.{numeral-at, elements-begin, least-++}
+use Rattle.shapes.specs.Checks.{unless, each, isArray, isNumber}
+use Rattle.shapes.specs.Shapes.{isIntegerValue, allIntegers, holdsThree, isPair, inPairRange, isTriple, coordinate, vertex, shaped, near}
+use Rattle.shapes.specs.Laws.{least-turn, unless-true, unless-yes, unless-told, each-none, numeral-none, numeral-is, kind-no, kind-yes}
+
+-- a test or another that is known
+pub or-true : (b : Bool) → b || true ≡ true
+or-true true = refl
+or-true false = refl
+
+pub or-false : (b : Bool) → b || false ≡ b
+or-false true = refl
+or-false false = refl
+
+-- a triple is an array
+triple-of : (v : Json) → isTriple v ≡ true → isArrayValue v ≡ true
+unfolding isTriple
+triple-of v e = go (isArrayValue v) (eqb (length (elements v)) 3) (allIntegers (elements v)) e
+  where
+    go : (a b c : Bool) → a && b && c ≡ true → a ≡ true
+    go true b c e = refl
+    go false true c e = e
+    go false false c e = e
+
+-- the checks of a depth above 0, by those of one less
+shaped-suc : (d : ℕ) → (d ≡ 0 → ⊥) → (v : Json) → shaped d v ≡ unless (isArrayValue v) 12 v ++ each (shaped (d - 1)) v
+unfolding shaped each
+shaped-suc zero h v = absurd (h refl)
+shaped-suc (suc d) h v = let e : d ≡ suc d - 1 = omega arith in ap (λ (k : ℕ). unless (isArrayValue v) 12 v ++ each (shaped k) v) e
+
+near-suc : (count d : ℕ) → (d ≡ 0 → ⊥) → (v : Json) → near count d v ≡ each (near count (d - 1)) v
+unfolding near each
+near-suc count zero h v = absurd (h refl)
+near-suc count (suc d) h v = let e : d ≡ suc d - 1 = omega arith in ap (λ (k : ℕ). each (near count k) v) e
+
+module _ {x t : List ℕ} {i : ℕ} where
+  -- an integer
+  pub integer-no : {b : Bool} → Gives isNumberValue x t i b → not b ≡ true → Gives isIntegerValue x t i false
+  unfolding isIntegerValue
+  integer-no {b} g e = record { is = λ v s. let z : isNumberValue v ≡ false = sym (g .is v s) ∙ not-true b e in rw z }
+
+  pub integer-is : {b : Bool} {p e : ℕ} {r : Bool} → Gives isNumberValue x t i b → not b ≡ false → p ≡ getD t i 0 → e ≡ getD t (i + 1) 0 → r ≡ isInteger (slice p e x) → Gives isIntegerValue x t i r
+  unfolding isIntegerValue
+  integer-is {b} {p} {e} {r} g h q o m = record { is = λ v s. let z : isNumberValue v ≡ true = sym (g .is v s) ∙ not-false b h in rw (z, numeral-at s z .bytes, ← q, ← o) m }
+
+  -- an integer or null
+  pub value-null : {b : Bool} → Gives isNullValue x t i b → b ≡ true → Gives (λ v. isIntegerValue v || isNullValue v) x t i true
+  value-null {b} g e = record { is = λ v s. let z : isNullValue v ≡ true = sym (g .is v s) ∙ e in rw z (sym (or-true (isIntegerValue v))) }
+
+  pub value-integer : {b r : Bool} → Gives isNullValue x t i b → b ≡ false → Gives isIntegerValue x t i r → Gives (λ v. isIntegerValue v || isNullValue v) x t i r
+  value-integer {b} {r} g e h = record { is = λ v s. let z : isNullValue v ≡ false = sym (g .is v s) ∙ e in rw z (h .is v s ∙ sym (or-false (isIntegerValue v))) }
+
+  -- three numbers
+  pub three-none : (best : ℕ) {b : Bool} → Gives isArrayValue x t i b → not b ≡ true → Gives (λ v. least best (holdsThree v)) x t i best
+  unfolding holdsThree
+  three-none best {b} g e = record { is = λ v s. unless-true best 12 v (ap (λ (b : Bool). not b || eqb (length (elements v)) 3) (sym (g .is v s) ∙ not-true b e)) }
+
+  pub three-is : (best : ℕ) {b : Bool} {n r : ℕ} → Gives isArrayValue x t i b → not b ≡ false → Gives (λ v. length (elements v)) x t i n → Gives (λ v. least best (unless (eqb n 3) 12 v)) x t i r → Gives (λ v. least best (holdsThree v)) x t i r
+  unfolding holdsThree
+  three-is best {b} {n} {r} g e k u = record { is = λ v s. u .is v s ∙ ap (λ (b : Bool). least best (unless b 12 v)) (told v s) }
+    where
+      told : (v : Json) → Sub x t i v → eqb n 3 ≡ not (isArrayValue v) || eqb (length (elements v)) 3
+      told v s = let z : isArrayValue v ≡ true = sym (g .is v s) ∙ not-false b e in rw (z, ← k .is v s)
+
+  -- a pair in range
+  pub pair-none : (best : ℕ) {b : Bool} → Gives isNumberValue x t i b → not b ≡ true → Gives (λ v. least best (inPairRange v)) x t i best
+  unfolding inPairRange
+  pair-none best g e = numeral-none best 13 (λ raw. isPair (pairOf raw)) g e
+
+  module _ (best : ℕ) {b : Bool} {p e : ℕ} {a : Numeral} (g : Gives isNumberValue x t i b) (h : not b ≡ false) (q : p ≡ getD t i 0) (o : e ≡ getD t (i + 1) 0) (m : pairIn a ≡ pairOf (slice p e x)) where
+    pub pair-out : {r : ℕ} → a ≡ Out → Gives (λ v. least best (unless false 13 v)) x t i r → Gives (λ v. least best (inPairRange v)) x t i r
+    unfolding inPairRange pairIn isPair
+    pair-out k u = numeral-is best 13 (λ raw. isPair (pairOf raw)) {k = false} g h q o (rw (← m, k)) u
+
+    pub pair-in : {n d : _} → a ≡ Pair n d → Gives (λ v. least best (inPairRange v)) x t i best
+    unfolding inPairRange pairIn isPair
+    pair-in k = numeral-is best 13 (λ raw. isPair (pairOf raw)) {k = true} g h q o (rw (← m, k)) (unless-yes best 13 refl)
+
+  -- a coordinate
+  pub coordinate-none : (best : ℕ) {b : Bool} → Gives isNumberValue x t i b → not b ≡ true → Gives (λ v. least best (coordinate v)) x t i best
+  unfolding coordinate
+  coordinate-none best g e = numeral-none best 13 (λ raw. fits32 (integer raw)) g e
+
+  pub coordinate-is : (best : ℕ) {p e r : ℕ} {b k : Bool} → Gives isNumberValue x t i b → not b ≡ false → p ≡ getD t i 0 → e ≡ getD t (i + 1) 0 → k ≡ fits32 (integer (slice p e x)) → Gives (λ v. least best (unless k 13 v)) x t i r → Gives (λ v. least best (coordinate v)) x t i r
+  unfolding coordinate
+  coordinate-is best g h q o m u = numeral-is best 13 (λ raw. fits32 (integer raw)) g h q o m u
+
+  -- an integer below the count
+  pub below-none : (best count : ℕ) {b : Bool} → Gives isNumberValue x t i b → not b ≡ true → Gives (λ v. least best (near count 0 v)) x t i best
+  unfolding near
+  below-none best count g e = numeral-none best 13 (λ raw. isBelow count (integer raw)) g e
+
+  pub below-is : (best count : ℕ) {p e r : ℕ} {b k : Bool} → Gives isNumberValue x t i b → not b ≡ false → p ≡ getD t i 0 → e ≡ getD t (i + 1) 0 → k ≡ isBelow count (integer (slice p e x)) → Gives (λ v. least best (unless k 13 v)) x t i r → Gives (λ v. least best (near count 0 v)) x t i r
+  unfolding near
+  below-is best count g h q o m u = numeral-is best 13 (λ raw. isBelow count (integer raw)) g h q o m u
+
+  -- three pairs
+  pub three-pairs-is : (best k s : ℕ) {r : ℕ} → Gives (λ v. least best (isArray v)) x t i k → Gives (λ v. least k (holdsThree v)) x t i s → Gives (λ v. least s (each isNumber v ++ each inPairRange v)) x t i r → Gives (λ v. least best (isArray v ++ each isNumber v ++ holdsThree v ++ each inPairRange v)) x t i r
+  three-pairs-is best k s f g h = record { is = λ v z. h .is v z ∙ (rw (g .is v z, f .is v z) (mixed best (isArray v) (each isNumber v) (holdsThree v) (each inPairRange v))) }
+    where
+      mixed : (b : ℕ) (p q r s : List ℕ) → least (least (least b p) r) (q ++ s) ≡ least b (((p ++ q) ++ r) ++ s)
+      mixed b p q r s = simp least-++ (ap (λ (m : ℕ). least m s) (least-turn (least b p) r q))
+
+  -- a triple of integers
+  module _ {b : Bool} (g : Gives isArrayValue x t i b) where
+    pub triple-kind : not b ≡ true → Gives isTriple x t i false
+    unfolding isTriple
+    triple-kind e = record { is = λ v s. let z : isArrayValue v ≡ false = sym (g .is v s) ∙ not-true b e in rw z }
+
+    pub triple-array : not b ≡ false → Gives isArrayValue x t i true
+    triple-array e = rw (not-false b e) at g
+
+    module _ {n : ℕ} (e : not b ≡ false) (k : Gives (λ v. length (elements v)) x t i n) where
+      pub triple-count : (n ≡ 3 → ⊥) → Gives isTriple x t i false
+      unfolding isTriple
+      triple-count h = record { is = λ v s. let z : isArrayValue v ≡ true = sym (g .is v s) ∙ not-false b e in rw (z, ← k .is v s, ne-eqb n 3 h) }
+
+      pub triple-is : {r : Bool} → n ≡ 3 → Gives (λ v. allIntegers (elements v)) x t i r → Gives isTriple x t i r
+      unfolding isTriple
+      triple-is h a = record { is = λ v s. let z : isArrayValue v ≡ true = sym (g .is v s) ∙ not-false b e in rw (z, ← k .is v s, eq-eqb n 3 h) (a .is v s) }
+
+  -- a vertex
+  pub vertex-array : {b : Bool} → Gives isTriple x t i b → not b ≡ false → Gives isArrayValue x t i true
+  vertex-array {b} g e = record { is = λ v s. sym (triple-of v (sym (g .is v s) ∙ not-false b e)) }
+
+  pub vertex-no : (best : ℕ) {b : Bool} {r : ℕ} → Gives isTriple x t i b → not b ≡ true → Gives (λ v. least best (unless false 12 v)) x t i r → Gives (λ v. least best (vertex v)) x t i r
+  unfolding vertex
+  vertex-no best {b} g e u = record { is = λ v s. let z : isTriple v ≡ false = sym (g .is v s) ∙ not-true b e in rw z (u .is v s) }
+
+  pub vertex-is : (best : ℕ) {b : Bool} {r : ℕ} → Gives isTriple x t i b → not b ≡ false → Gives (λ v. least best (each coordinate v)) x t i r → Gives (λ v. least best (vertex v)) x t i r
+  unfolding vertex
+  vertex-is best {b} g e u = record { is = λ v s. let z : isTriple v ≡ true = sym (g .is v s) ∙ not-false b e in rw z (u .is v s) }
+
+  -- a shape of that depth
+  module _ (best depth : ℕ) where
+    pub shaped-leaf : {b : Bool} {r : ℕ} → depth ≡ 0 → Gives isIntegerValue x t i b → Gives (λ v. least best (unless b 12 v)) x t i r → Gives (λ v. least best (shaped depth v)) x t i r
+    unfolding shaped
+    shaped-leaf e g u = rw e (unless-told best 12 g u)
+
+    shaped-deep : {r : ℕ} → (depth ≡ 0 → ⊥) → Gives (λ v. least best (unless (isArrayValue v) 12 v ++ each (shaped (depth - 1)) v)) x t i r → Gives (λ v. least best (shaped depth v)) x t i r
+    shaped-deep h g = record { is = λ v s. g .is v s ∙ ap (least best) (sym (shaped-suc depth h v)) }
+
+    pub shaped-no : {b : Bool} {r : ℕ} → (depth ≡ 0 → ⊥) → Gives isArrayValue x t i b → not b ≡ true → Gives (λ v. least best (unless false 12 v)) x t i r → Gives (λ v. least best (shaped depth v)) x t i r
+    shaped-no {b} h g e u = shaped-deep h (kind-no best 12 (each (shaped (depth - 1))) g (each-none (shaped (depth - 1))) e (rw (not-true b e) u))
+
+    pub shaped-yes : {b : Bool} {r : ℕ} → (depth ≡ 0 → ⊥) → Gives isArrayValue x t i b → not b ≡ false → Gives (λ v. least best (each (shaped (depth - 1)) v)) x t i r → Gives (λ v. least best (shaped depth v)) x t i r
+    shaped-yes h g e p = shaped-deep h (kind-yes best 12 (each (shaped (depth - 1))) g e p)
+
+  -- integers near at that depth
+  module _ (best count depth : ℕ) where
+    pub near-leaf : {r : ℕ} → depth ≡ 0 → Gives (λ v. least best (near count 0 v)) x t i r → Gives (λ v. least best (near count depth v)) x t i r
+    near-leaf e g = rw e g
+
+    pub near-deep : {r : ℕ} → (depth ≡ 0 → ⊥) → Gives (λ v. least best (each (near count (depth - 1)) v)) x t i r → Gives (λ v. least best (near count depth v)) x t i r
+    near-deep h g = record { is = λ v s. g .is v s ∙ ap (least best) (sym (near-suc count depth h v)) }
+
+-- A loop over the elements of the array at i, all of which were integers up to the node k
+pub record Integers (x t : List ℕ) (i n k : ℕ) : Type 0 where
+  pub node : Node x t i
+  pub left : (v : Json) → Sub x t i v → Left x t k n (λ vs. allIntegers (listed vs) ≡ allIntegers (elements v))
+
+module _ {x t : List ℕ} {i : ℕ} where
+  pub integers-start : {n : ℕ} → Node x t i → Gives isArrayValue x t i true → n ≡ getD t (i + 2) 0 → Integers x t i n (i + 3)
+  integers-start d g q = record { node = d; left = λ v s. rw q (elements-begin (λ vs. allIntegers vs ≡ allIntegers (elements v)) s (sym (g .is v s)) refl) }
+
+  module _ {n k : ℕ} (p : Integers x t i n k) where
+    here : k < n → Past x t k n (λ vs. allIntegers (listed vs) ≡ allIntegers (elements (p .node .value)))
+    here l = past (p .left (p .node .value) (p .node .stands)) l
+
+    pub integers-node : k < n → Node x t k
+    integers-node l = let u = here l in record { value = u .value; stands = u .stands; short = p .node .short }
+
+    pub integers-room : k < n → k + 2 < length t
+    integers-room l = here l .word .room
+
+    pub integers-less : {m : ℕ} → k < n → m ≡ getD t (k + 2) 0 → n - m < n - k
+    integers-less l q = let u = here l in omega (arith, u .more, u .within)
+
+    pub integers-wrong : {r : Bool} → k < n → Gives isIntegerValue x t k r → not r ≡ true → Gives (λ v. allIntegers (elements v)) x t i false
+    unfolding listed allIntegers
+    integers-wrong {r} l g e = record { is = λ v s. let u = past (p .left v s) l in let z : isIntegerValue (u .value) ≡ false = sym (g .is (u .value) (u .stands)) ∙ not-true r e in rw z at (u .holds) }
+
+    pub integers-turn : {m : ℕ} {r : Bool} → k < n → Gives isIntegerValue x t k r → not r ≡ false → m ≡ getD t (k + 2) 0 → Integers x t i n m
+    unfolding listed allIntegers
+    integers-turn {m} {r} l g e q =
+        record { node = p .node; left = λ v s. let u = past (p .left v s) l in let z : isIntegerValue (u .value) ≡ true = sym (g .is (u .value) (u .stands)) ∙ not-false r e in rw q (over u (rw z at (u .holds))) }
+
+    pub integers-done : n ≤ k → Gives (λ v. allIntegers (elements v)) x t i true
+    unfolding listed allIntegers
+    integers-done h = record { is = λ v s. ended (p .left v s) h }

@@ -1,0 +1,26 @@
+-- What the checks over a node table ask and tell. Assumes nothing: these are definitions.
+use mathlib.Core.Path.{_≡_}
+use mathlib.Core.Bool.{not, _||_}
+use mathlib.Core.List.{List}
+use mathlib.Core.Option.{Option}
+use Prim.Native.Nat.{ℕ}
+use Rattle.json.specs.Tree.{Json}
+use Rattle.json.specs.Table.{Sub}
+use Rattle.nodes.specs.Access.{isObjectValue}
+use Rattle.nodes.specs.Faults.{least}
+use Rattle.nodes.specs.Says.{Node, Finds}
+use Rattle.nodes.specs.declared.Found.{Found}
+use Rattle.shapes.specs.Checks.{unless, isSome}
+
+-- values stand at two nodes
+pub record Nodes (x t : List ℕ) (i j : ℕ) : Type 0 where
+  pub one : Node x t i
+  pub two : Node x t j
+
+-- r is what f gives for the values that stand at two nodes
+pub record GivesTwo (f : Json → Json → ℕ) (x t : List ℕ) (i j r : ℕ) : Type 0 where
+  pub is : (v w : Json) → Sub x t i v → Sub x t j w → r ≡ f v w
+
+-- r is the least of best and the fault of rule 8 at the value that stands at the node i, unless what was found is there
+pub record Needs (x t : List ℕ) (found : Found) (i best r : ℕ) : Type 0 where
+  pub is : (v : Json) (o : Option Json) → Sub x t i v → Finds x t o found → r ≡ least best (unless (not (isObjectValue v) || isSome o) 8 v)

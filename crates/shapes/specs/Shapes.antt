@@ -1,0 +1,79 @@
+-- Rules 12 and 13 of document 01: shapes of nested arrays and ranges of numbers. Assumes nothing: these are definitions.
+use Prim.Native.Nat.{ℕ, zero, suc}
+use mathlib.Core.Bool.{Bool, true, false, cond, not, _&&_, _||_}
+use mathlib.Core.List.{List, [], _∷_, _++_}
+use mathlib.Core.Option.{Option, some}
+use mathlib.Core.Option as option
+use lib.ListN.{length}
+use lib.Dec.{eqb}
+use Rattle.numerals.specs.Numerals.{Decimal, isInteger, integer, pairOf, fits32, isBelow}
+use Rattle.json.specs.Tree.{Json}
+use Rattle.nodes.specs.Access.{isNullValue, isNumberValue, isArrayValue, elements, numeralOf}
+use Rattle.shapes.specs.Checks.{Check, unless, forEach, each, numeral}
+
+-- a numeral that is an integer
+unfoldable pub isIntegerValue : Json → Bool
+unfolding isNumberValue isInteger numeralOf
+isIntegerValue v = isNumberValue v && isInteger (numeralOf v)
+
+unfoldable pub allIntegers : List Json → Bool
+unfolding isIntegerValue
+allIntegers [] = true
+allIntegers (v ∷ vs) = isIntegerValue v && allIntegers vs
+
+-- 12: `scale` and `translate` hold three numbers, at the array
+unfoldable pub holdsThree : Check
+unfolding unless isArrayValue elements
+holdsThree v = unless (not (isArrayValue v) || eqb (length (elements v)) 3) 12 v
+
+-- 13: a transform number is a pair in range, at the number
+unfoldable pub isPair : Option Decimal → Bool
+isPair option.none = false
+isPair (some d) = true
+
+unfoldable pub inPairRange : Check
+unfolding numeral isPair pairOf
+inPairRange = numeral 13 (λ raw. isPair (pairOf raw))
+
+-- 12: a vertex is an array of three integers, at the element of `vertices`; 13: each fits 32 signed bits, at the number
+unfoldable pub isTriple : Json → Bool
+unfolding isArrayValue elements allIntegers
+isTriple v = isArrayValue v && eqb (length (elements v)) 3 && allIntegers (elements v)
+
+unfoldable pub coordinate : Check
+unfolding numeral fits32 integer
+coordinate = numeral 13 (λ raw. fits32 (integer raw))
+
+unfoldable pub vertex : Check
+unfolding unless isTriple each coordinate
+vertex v = cond (isTriple v) (each coordinate v) (unless false 12 v)
+
+-- 12: arrays down to the depth, where integers stand, at the wrong element
+unfoldable pub shaped : ℕ → Check
+unfolding unless isIntegerValue isArrayValue forEach elements
+shaped zero v = unless (isIntegerValue v) 12 v
+shaped (suc d) v = unless (isArrayValue v) 12 v ++ forEach (shaped d) (elements v)
+
+-- 13: each integer at that depth is at least 0 and below the count, at the number
+unfoldable pub near : ℕ → ℕ → Check
+unfolding numeral isBelow integer forEach elements
+near count zero v = numeral 13 (λ raw. isBelow count (integer raw)) v
+near count (suc d) v = forEach (near count d) (elements v)
+
+-- a check of two lists' elements, side by side
+unfoldable pub forBoth : (Json → Check) → List Json → List Json → List ℕ
+forBoth c [] ws = []
+forBoth c (v ∷ vs) [] = []
+forBoth c (v ∷ vs) (w ∷ ws) = c v w ++ forBoth c vs ws
+
+-- 12: `values` has the boundary's count at each of its levels, at the array that differs; arrays above its last level and integers or null there, at the element
+unfoldable pub matches : ℕ → Json → Check
+unfolding unless isIntegerValue isNullValue isArrayValue forBoth elements
+matches zero b v = unless (isIntegerValue v || isNullValue v) 12 v
+matches (suc d) b v =
+    unless (isArrayValue v && eqb (length (elements b)) (length (elements v))) 12 v
+    ++ cond (isArrayValue v && eqb (length (elements b)) (length (elements v))) (forBoth (matches d) (elements b) (elements v)) []
+
+unfoldable pub isNil : List ℕ → Bool
+isNil [] = true
+isNil (f ∷ fs) = false

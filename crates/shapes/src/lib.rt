@@ -1,0 +1,321 @@
+// Checks of a value of the node table: its kind (rule 7), its shape (rule 12) and the range of its numbers (rule 13).
+// Each takes the least fault so far and gives the least.
+ghost use Prim.Native.Nat.{_<_};
+ghost use mathlib.Core.Bool.{true, _||_};
+ghost use mathlib.Core.List.{_++_};
+ghost use Rattle.nodes.specs.Access.{isNullValue, isArrayValue, elements};
+ghost use Rattle.nodes.specs.Faults.{least};
+ghost use Rattle.nodes.specs.Says.{Node, Sought, Gives};
+ghost use Rattle.shapes.specs.Checks.{isObject, isString, isNumber, isArray, each};
+ghost use Rattle.shapes.specs.Checks as checks;
+ghost use Rattle.shapes.specs.Shapes.{isIntegerValue, allIntegers, holdsThree, inPairRange, isTriple};
+ghost use Rattle.shapes.specs.Shapes as shape;
+ghost use Rattle.shapes.specs.Says.{Nodes, GivesTwo, Needs};
+use nodes::Found;
+use numerals::Numeral;
+
+// The fault of a rule at a node, unless it is kept there.
+pub fn unless(kept: bool, rule: u32, text: &[u8], table: &[u32], i: usize, best: u32) -> u32
+    requires { ⌜ (Node (now text) (now table) i) × (rule < 18) ⌝ }
+    ensures { λ r. ⌜ Gives (λ v. least best (checks.unless kept rule v)) (now (text .entry)) (now (table .entry)) i r ⌝ }
+{
+    if kept {
+        return best;
+    }
+    nodes::lesser(best, nodes::fault_at(rule, nodes::start(table, i)))
+}
+
+// Rule 7: an object, a string, a number, an array.
+pub fn object(text: &[u8], table: &[u32], i: usize, best: u32) -> u32
+    requires { ⌜ Node (now text) (now table) i ⌝ }
+    ensures { λ r. ⌜ Gives (λ v. least best (isObject v)) (now (text .entry)) (now (table .entry)) i r ⌝ }
+{
+    unless(nodes::is_object(text, table, i), 7, text, table, i, best)
+}
+
+pub fn string(text: &[u8], table: &[u32], i: usize, best: u32) -> u32
+    requires { ⌜ Node (now text) (now table) i ⌝ }
+    ensures { λ r. ⌜ Gives (λ v. least best (isString v)) (now (text .entry)) (now (table .entry)) i r ⌝ }
+{
+    unless(nodes::is_string(text, table, i), 7, text, table, i, best)
+}
+
+pub fn number(text: &[u8], table: &[u32], i: usize, best: u32) -> u32
+    requires { ⌜ Node (now text) (now table) i ⌝ }
+    ensures { λ r. ⌜ Gives (λ v. least best (isNumber v)) (now (text .entry)) (now (table .entry)) i r ⌝ }
+{
+    unless(nodes::is_number(text, table, i), 7, text, table, i, best)
+}
+
+pub fn array(text: &[u8], table: &[u32], i: usize, best: u32) -> u32
+    requires { ⌜ Node (now text) (now table) i ⌝ }
+    ensures { λ r. ⌜ Gives (λ v. least best (isArray v)) (now (text .entry)) (now (table .entry)) i r ⌝ }
+{
+    unless(nodes::is_array(text, table, i), 7, text, table, i, best)
+}
+
+// Rule 8: a member was found in the object at a node, if it is one.
+pub fn need(found: Found, text: &[u8], table: &[u32], i: usize, best: u32) -> u32
+    requires { ⌜ (Node (now text) (now table) i) × (Sought (now text) (now table) found) ⌝ }
+    ensures { λ r. ⌜ Needs (now (text .entry)) (now (table .entry)) found i best r ⌝ }
+{
+    let Found::At(_) = found else {
+        return unless(!nodes::is_object(text, table, i), 8, text, table, i, best);
+    };
+    best
+}
+
+// Is the value a numeral that is an integer?
+pub fn is_integer(text: &[u8], table: &[u32], i: usize) -> bool
+    requires { ⌜ Node (now text) (now table) i ⌝ }
+    ensures { λ r. ⌜ Gives isIntegerValue (now (text .entry)) (now (table .entry)) i r ⌝ }
+{
+    if !nodes::is_number(text, table, i) {
+        return false;
+    }
+    numerals::is_integer(text, nodes::start(table, i), nodes::end(table, i))
+}
+
+// Rule 12: `scale` and `translate` hold three numbers.
+pub fn three(text: &[u8], table: &[u32], i: usize, best: u32) -> u32
+    requires { ⌜ Node (now text) (now table) i ⌝ }
+    ensures { λ r. ⌜ Gives (λ v. least best (holdsThree v)) (now (text .entry)) (now (table .entry)) i r ⌝ }
+{
+    if !nodes::is_array(text, table, i) {
+        return best;
+    }
+    unless(nodes::count(text, table, i) == 3, 12, text, table, i, best)
+}
+
+// Rule 13: a transform number is a pair in range.
+fn pair_range(text: &[u8], table: &[u32], i: usize, best: u32) -> u32
+    requires { ⌜ Node (now text) (now table) i ⌝ }
+    ensures { λ r. ⌜ Gives (λ v. least best (inPairRange v)) (now (text .entry)) (now (table .entry)) i r ⌝ }
+{
+    if !nodes::is_number(text, table, i) {
+        return best;
+    }
+    let answer = numerals::pair(text, nodes::start(table, i), nodes::end(table, i));
+    let Numeral::Pair(_, _) = answer else {
+        return unless(false, 13, text, table, i, best);
+    };
+    best
+}
+
+// Rules 7 and 13 of each entry of `scale` or `translate`.
+fn entries(text: &[u8], table: &[u32], i: usize, best: u32) -> u32
+    requires { ⌜ Node (now text) (now table) i ⌝ }
+    ensures { λ r. ⌜ Gives (λ v. least best (each isNumber v ++ each inPairRange v)) (now (text .entry)) (now (table .entry)) i r ⌝ }
+{
+    if !nodes::is_array(text, table, i) {
+        return best;
+    }
+    let n = nodes::next(table, i);
+    let mut least = best;
+    let mut k = i + 3;
+    while k < n {
+        least = number(text, table, k, least);
+        least = pair_range(text, table, k, least);
+        k = nodes::next(table, k);
+    }
+    least
+}
+
+// `scale` or `translate`: an array (7) of numbers (7), three of them (12), each a pair in range (13).
+pub fn three_pairs(text: &[u8], table: &[u32], i: usize, best: u32) -> u32
+    requires { ⌜ Node (now text) (now table) i ⌝ }
+    ensures { λ r. ⌜ Gives (λ v. least best (isArray v ++ each isNumber v ++ holdsThree v ++ each inPairRange v)) (now (text .entry)) (now (table .entry)) i r ⌝ }
+{
+    let kind = array(text, table, i, best);
+    let shape = three(text, table, i, kind);
+    entries(text, table, i, shape)
+}
+
+// Are all elements of an array integers?
+fn all_integers(text: &[u8], table: &[u32], i: usize) -> bool
+    requires { ⌜ (Node (now text) (now table) i) × (Gives isArrayValue (now text) (now table) i true) ⌝ }
+    ensures { λ r. ⌜ Gives (λ v. allIntegers (elements v)) (now (text .entry)) (now (table .entry)) i r ⌝ }
+{
+    let n = nodes::next(table, i);
+    let mut k = i + 3;
+    while k < n {
+        if !is_integer(text, table, k) {
+            return false;
+        }
+        k = nodes::next(table, k);
+    }
+    true
+}
+
+// Is the value an array of three integers?
+fn is_triple(text: &[u8], table: &[u32], i: usize) -> bool
+    requires { ⌜ Node (now text) (now table) i ⌝ }
+    ensures { λ r. ⌜ Gives isTriple (now (text .entry)) (now (table .entry)) i r ⌝ }
+{
+    if !nodes::is_array(text, table, i) {
+        return false;
+    }
+    if nodes::count(text, table, i) != 3 {
+        return false;
+    }
+    all_integers(text, table, i)
+}
+
+// Rule 13: a coordinate fits 32 signed bits.
+fn coordinate(text: &[u8], table: &[u32], i: usize, best: u32) -> u32
+    requires { ⌜ Node (now text) (now table) i ⌝ }
+    ensures { λ r. ⌜ Gives (λ v. least best (shape.coordinate v)) (now (text .entry)) (now (table .entry)) i r ⌝ }
+{
+    if !nodes::is_number(text, table, i) {
+        return best;
+    }
+    unless(
+        numerals::fits_32(text, nodes::start(table, i), nodes::end(table, i)),
+        13,
+        text,
+        table,
+        i,
+        best,
+    )
+}
+
+// The coordinates of a vertex.
+fn coordinates(text: &[u8], table: &[u32], i: usize, best: u32) -> u32
+    requires { ⌜ (Node (now text) (now table) i) × (Gives isArrayValue (now text) (now table) i true) ⌝ }
+    ensures { λ r. ⌜ Gives (λ v. least best (each shape.coordinate v)) (now (text .entry)) (now (table .entry)) i r ⌝ }
+{
+    let n = nodes::next(table, i);
+    let mut least = best;
+    let mut k = i + 3;
+    while k < n {
+        least = coordinate(text, table, k, least);
+        k = nodes::next(table, k);
+    }
+    least
+}
+
+// A vertex: an array of three integers (12) that fit 32 signed bits (13).
+fn vertex(text: &[u8], table: &[u32], i: usize, best: u32) -> u32
+    requires { ⌜ Node (now text) (now table) i ⌝ }
+    ensures { λ r. ⌜ Gives (λ v. least best (shape.vertex v)) (now (text .entry)) (now (table .entry)) i r ⌝ }
+{
+    if !is_triple(text, table, i) {
+        return unless(false, 12, text, table, i, best);
+    }
+    coordinates(text, table, i, best)
+}
+
+// The vertices: an array (7) of vertices.
+pub fn vertices(text: &[u8], table: &[u32], i: usize, best: u32) -> u32
+    requires { ⌜ Node (now text) (now table) i ⌝ }
+    ensures { λ r. ⌜ Gives (λ v. least best (isArray v ++ each shape.vertex v)) (now (text .entry)) (now (table .entry)) i r ⌝ }
+{
+    if !nodes::is_array(text, table, i) {
+        return array(text, table, i, best);
+    }
+    let n = nodes::next(table, i);
+    let mut least = best;
+    let mut k = i + 3;
+    while k < n {
+        least = vertex(text, table, k, least);
+        k = nodes::next(table, k);
+    }
+    least
+}
+
+// Rule 12: arrays down to the depth, where integers stand.
+pub fn shaped(text: &[u8], table: &[u32], i: usize, depth: usize, best: u32) -> u32
+    requires { ⌜ Node (now text) (now table) i ⌝ }
+    ensures { λ r. ⌜ Gives (λ v. least best (shape.shaped depth v)) (now (text .entry)) (now (table .entry)) i r ⌝ }
+{
+    if depth == 0 {
+        return unless(is_integer(text, table, i), 12, text, table, i, best);
+    }
+    if !nodes::is_array(text, table, i) {
+        return unless(false, 12, text, table, i, best);
+    }
+    let n = nodes::next(table, i);
+    let mut least = best;
+    let mut k = i + 3;
+    while k < n {
+        least = shaped(text, table, k, depth - 1, least);
+        k = nodes::next(table, k);
+    }
+    least
+}
+
+// Rule 13: an integer is at least 0 and below the count.
+fn below(text: &[u8], table: &[u32], i: usize, count: usize, best: u32) -> u32
+    requires { ⌜ Node (now text) (now table) i ⌝ }
+    ensures { λ r. ⌜ Gives (λ v. least best (shape.near count 0 v)) (now (text .entry)) (now (table .entry)) i r ⌝ }
+{
+    if !nodes::is_number(text, table, i) {
+        return best;
+    }
+    unless(
+        numerals::is_below(text, nodes::start(table, i), nodes::end(table, i), count),
+        13,
+        text,
+        table,
+        i,
+        best,
+    )
+}
+
+// Rule 13: each integer at that depth is at least 0 and below the count.
+pub fn near(text: &[u8], table: &[u32], i: usize, depth: usize, count: usize, best: u32) -> u32
+    requires { ⌜ Node (now text) (now table) i ⌝ }
+    ensures { λ r. ⌜ Gives (λ v. least best (shape.near count depth v)) (now (text .entry)) (now (table .entry)) i r ⌝ }
+{
+    if depth == 0 {
+        return below(text, table, i, count, best);
+    }
+    if !nodes::is_array(text, table, i) {
+        return best;
+    }
+    let n = nodes::next(table, i);
+    let mut least = best;
+    let mut k = i + 3;
+    while k < n {
+        least = near(text, table, k, depth - 1, count, least);
+        k = nodes::next(table, k);
+    }
+    least
+}
+
+// Is the value an integer or null?
+fn is_value(text: &[u8], table: &[u32], i: usize) -> bool
+    requires { ⌜ Node (now text) (now table) i ⌝ }
+    ensures { λ r. ⌜ Gives (λ v. isIntegerValue v || isNullValue v) (now (text .entry)) (now (table .entry)) i r ⌝ }
+{
+    if nodes::is_null(text, table, i) {
+        return true;
+    }
+    is_integer(text, table, i)
+}
+
+// Rule 12: `values` at node v has the counts of the boundary at node b at each of its levels, and integers or null at the last.
+pub fn matches(text: &[u8], table: &[u32], b: usize, v: usize, depth: usize, best: u32) -> u32
+    requires { ⌜ Nodes (now text) (now table) b v ⌝ }
+    ensures { λ r. ⌜ GivesTwo (λ w u. least best (shape.matches depth w u)) (now (text .entry)) (now (table .entry)) b v r ⌝ }
+{
+    if depth == 0 {
+        return unless(is_value(text, table, v), 12, text, table, v, best);
+    }
+    if !nodes::is_array(text, table, v) {
+        return unless(false, 12, text, table, v, best);
+    }
+    if nodes::count(text, table, b) != nodes::count(text, table, v) {
+        return unless(false, 12, text, table, v, best);
+    }
+    let n = nodes::next(table, v);
+    let mut least = best;
+    let mut j = b + 3;
+    let mut k = v + 3;
+    while k < n {
+        least = matches(text, table, j, k, depth - 1, least);
+        j = nodes::next(table, j);
+        k = nodes::next(table, k);
+    }
+    least
+}
