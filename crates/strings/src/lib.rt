@@ -310,8 +310,8 @@ pub fn is_word(text: &[u8], at: usize, end: usize, word: &[u8]) -> bool
     let mut i = at;
     let mut k = 0;
     while i < end {
-        let b = text[i];
-        if b == b'\\' {
+        let byte = text[i];
+        if byte == b'\\' {
             return is_word_ahead(
                 text,
                 Cursor {
@@ -327,7 +327,7 @@ pub fn is_word(text: &[u8], at: usize, end: usize, word: &[u8]) -> bool
         if k == word.len() {
             return false;
         }
-        if word[k] != b {
+        if word[k] != byte {
             return false;
         }
         i += 1;

@@ -1,0 +1,52 @@
+-- What judge answers, in document 01's numbers. Assumes nothing: these are definitions.
+use mathlib.Core.Path.{_≡_}
+use mathlib.Core.List.{List}
+use Prim.Native.Nat.{ℕ, _≤_}
+use lib.ListN.{length}
+use Rattle.json.specs.Tree.{Json}
+use Rattle.json.specs.Machine.{read, reads}
+use Rattle.json.specs.Table.{Sub, size}
+use Rattle.verdict.specs.Verdict as verdict
+use Rattle.kebrawish.specs.declared.Broken.{Broken}
+use Rattle.kebrawish.specs.declared.Broken.the-variants as broken
+use Rattle.kebrawish.specs.declared.Verdict.{Verdict}
+use Rattle.kebrawish.specs.declared.Verdict.the-variants.{Accepted, Refused}
+
+-- the number of a rule
+unfoldable pub numberOf : Broken → ℕ
+numberOf broken.TooLong = 1
+numberOf broken.NotUtf8 = 2
+numberOf broken.NotJson = 3
+numberOf broken.TooDeep = 4
+numberOf broken.UnpairedSurrogate = 5
+numberOf broken.RepeatedName = 6
+numberOf broken.WrongKind = 7
+numberOf broken.MissingMember = 8
+numberOf broken.TooManyObjects = 9
+numberOf broken.WrongWord = 10
+numberOf broken.NotCarried = 11
+numberOf broken.WrongShape = 12
+numberOf broken.OutOfRange = 13
+numberOf broken.NotPermitted = 14
+numberOf broken.UnknownLink = 15
+numberOf broken.NoParent = 16
+numberOf broken.OneSidedLink = 17
+numberOf broken.NoRoom = 18
+
+-- an answer as the verdict that it is
+unfoldable pub told : Verdict → verdict.Verdict
+unfolding numberOf
+told (Accepted n) = verdict.accepted n
+told (Refused r) = verdict.refused (numberOf (r .rule)) (r .place)
+
+-- the first n words of the table t are those of the tree that the text x, which is not too long, is read as
+pub record Stands (x t : List ℕ) (n : ℕ) : Type 0 where
+  pub value : Json
+  pub short : length x ≤ 65535
+  pub reads : read x ≡ reads value
+  pub stands : Sub x t 0 value
+  pub ends : size value ≡ n
+
+-- r is the verdict of the tree that the text x is read as
+pub record Judges (x : List ℕ) (r : verdict.Verdict) : Type 0 where
+  pub is : (v : Json) → read x ≡ reads v → r ≡ verdict.judged v

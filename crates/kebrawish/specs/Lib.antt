@@ -1,0 +1,2 @@
+-- What judge answers, in the paper's numbers.
+pub mod Answers

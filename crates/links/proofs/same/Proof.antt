@@ -1,0 +1,26 @@
+-- `links::same` meets its contract. Assumes nothing.
+use native.Mathlib.Omega.{arith}
+use Rattle.links.proofs.Rules.{links, text-fits}
+use Rattle.links.proofs.same.Statement.{statement}
+use Rattle.links.proofs.same.Tie as tie
+
+add-same-string : tie.Need-add-same-string
+add-same-string c = omega (arith, text-fits (c .before .before .before .before .before .before .pre .0) (c .before .before .before .start .ensures))
+
+add-same-string-2 : tie.Need-add-same-string-2
+add-same-string-2 c = omega (arith, text-fits (c .before .before .before .before .before .before .pre .1) (c .before .start2 .ensures))
+
+pub same-spec : {M : Type 1} → statement M
+same-spec =
+    tie.close
+    (tie.spec
+    (λ c κs. search links)
+    (λ c κs. search links)
+    (λ c κs. search links)
+    (λ c κs. search links)
+    add-same-string
+    (λ c. search links)
+    add-same-string-2
+    (λ c. search links)
+    (λ c κs. search links)
+    (λ c. search links))

@@ -1,0 +1,4 @@
+-- Rules 15 to 17 of document 01.
+pub mod Links
+pub mod Says
+pub mod Examples

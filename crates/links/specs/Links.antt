@@ -1,0 +1,79 @@
+-- Rules 15 to 17 of document 01, over the IDs of the city objects as decoded: all places at which a tree breaks them. Assumes nothing: these are definitions.
+use Prim.Native.Nat.{ℕ}
+use Prim.Native.String.{String}
+use mathlib.Core.Bool.{Bool, true, false, cond, not, _&&_, _||_}
+use mathlib.Core.List.{List, [], _∷_, _++_}
+use mathlib.Core.Option.{Option, some}
+use mathlib.Core.Option as option
+use Rattle.words.specs.Words.{objectWords, codeOf, is, isSecondLevel}
+use Rattle.json.specs.Tree.{Json}
+use Rattle.nodes.specs.Access.{isStringValue, elements, Member, nameOf, textOf, find, firstNamed}
+use Rattle.nodes.specs.Everywhere.{among}
+use Rattle.shapes.specs.Checks.{unless, isSome}
+use Rattle.fields.specs.Fields.{typeText, objectsOf}
+
+-- what an object lists under a name
+unfoldable pub elementsIn : Option Json → List Json
+unfolding elements
+elementsIn option.none = []
+elementsIn (some v) = elements v
+
+unfoldable pub listedIn : String → Json → List Json
+unfolding elementsIn find
+listedIn name o = elementsIn (find name o)
+
+-- the IDs among listed values: the strings, as decoded
+unfoldable pub idsAmong : List Json → List (List ℕ)
+unfolding isStringValue textOf
+idsAmong [] = []
+idsAmong (v ∷ vs) = cond (isStringValue v) (textOf v ∷ []) [] ++ idsAmong vs
+
+unfoldable pub idsIn : String → Option Json → List (List ℕ)
+unfolding idsAmong listedIn
+idsIn name option.none = []
+idsIn name (some o) = idsAmong (listedIn name o)
+
+-- a link from the object `id` to the object that the string s names, whose other side is listed under `back`:
+-- 15: the linked ID is absent from the objects, or listed before in the same list, at that string
+-- 17: the linked object does not list this one, at that string; `excused`: it need not
+unfoldable pub link : List Member → String → List ℕ → Bool → List (List ℕ) → Json → List ℕ
+unfolding unless isSome among idsIn firstNamed textOf
+link objects back id excused earlier s =
+    let other = firstNamed (textOf s) objects in
+    unless (isSome other && not (among earlier (textOf s))) 15 s
+    ++ unless (excused || among (idsIn back other) id) 17 s
+
+-- the links of one list, after those that were listed earlier
+unfoldable pub linksFrom : List Member → String → List ℕ → Bool → List (List ℕ) → List Json → List ℕ
+unfolding link isStringValue idsAmong
+linksFrom objects back id excused earlier [] = []
+linksFrom objects back id excused earlier (s ∷ ss) =
+    cond (isStringValue s) (link objects back id excused earlier s) []
+    ++ linksFrom objects back id excused (idsAmong (s ∷ []) ++ earlier) ss
+
+unfoldable pub isEmpty : List Json → Bool
+isEmpty [] = true
+isEmpty (v ∷ vs) = false
+
+-- 16: a second-level object with no parent listed, at the object
+unfoldable pub hasParent : Json → List ℕ
+unfolding unless isSecondLevel codeOf objectWords typeText isEmpty listedIn
+hasParent o = unless (not (isSecondLevel (codeOf objectWords (typeText o)) && isEmpty (listedIn "parents" o))) 16 o
+
+-- "A listed parent must list the object as child. A listed child must list the object as parent, unless the object is a `CityObjectGroup`."
+unfoldable pub linksOf : List Member → Member → List ℕ
+unfolding linksFrom listedIn hasParent is typeText nameOf
+linksOf objects m =
+    linksFrom objects "parents" (nameOf m) (is "CityObjectGroup" (typeText (m .1))) [] (listedIn "children" (m .1))
+    ++ linksFrom objects "children" (nameOf m) false [] (listedIn "parents" (m .1))
+    ++ hasParent (m .1)
+
+unfoldable pub linksOfEach : List Member → List Member → List ℕ
+unfolding linksOf
+linksOfEach objects [] = []
+linksOfEach objects (m ∷ ms) = linksOf objects m ++ linksOfEach objects ms
+
+-- the links of all objects
+unfoldable pub linkFaults : Json → List ℕ
+unfolding linksOfEach objectsOf
+linkFaults v = linksOfEach (objectsOf v) (objectsOf v)

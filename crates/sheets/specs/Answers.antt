@@ -1,0 +1,167 @@
+-- What an answer of lay tells of its text and room. Assumes nothing.
+use Prim.Native.Nat.{ℕ, _-_, _≤_, _<_}
+use native.Mathlib.Omega.{arith}
+use mathlib.Core.Path.{_≡_, refl, sym, ap, _∙_, subst}
+use mathlib.Core.Bool.{Bool, true, false, cond}
+use mathlib.Core.List.{List, _++_}
+use lib.ListN.{length, take, replicate, length-append, length-replicate}
+use lib.Seq.{take-at}
+use lib.Dec.{leb, ltb}
+use borrow.Author.Tests.{leb-true, leb-false, lt-leb, ltb-true}
+use Rattle.utf8.specs.Utf8.{wholeLength}
+use Rattle.json.specs.Tree.{Json}
+use Rattle.json.specs.Machine.{Outcome, reads, bad, tooDeep, read}
+use Rattle.grammar.specs.Theorems.{read-text, ordered}
+use Rattle.nodes.specs.Faults.{ruleOf, placeIn, least, none}
+use Rattle.fields.specs.Fields.{objectsOf}
+use Rattle.verdict.specs.Verdict.{Verdict, accepted, faults, given, judged, parsed, verdict}
+use Rattle.verdict.specs.Verdict as judge
+use Rattle.verdict.specs.Exact.{Clean, accepted-clean}
+use Rattle.model.specs.Good.{GoodModel}
+use Rattle.model.specs.Size.{size}
+use Rattle.sheets.specs.Laid.{treeIn, treeOf, modelOfText, sheetOfText, Answer, laid, refused, fitted, answer, filled, roomAfter}
+use Rattle.sheets.specs.Short.{spans-size}
+use Rattle.sheets.specs.Faultless.{model-good}
+
+-- ---- accepted texts
+
+-- the tree of a text that is read
+tree-is : (x : List ℕ) (v : Json) → read x ≡ reads v → treeOf x ≡ v
+unfolding treeOf
+tree-is x v e = ap treeIn e
+
+module _ (x : List ℕ) (n : ℕ) (e : verdict x ≡ accepted n) where
+  -- its tree has no fault
+  clean-tree : Clean x n
+  clean-tree = accepted-clean x n e
+
+  -- its tree is no larger than the text
+  tree-short : size (clean-tree .value) ≤ 65535
+  tree-short = let (p, q, s, k) = ordered 32 x (clean-tree .value) (read-text x (clean-tree .value) .0 (clean-tree .reads)) in omega (arith, spans-size s, clean-tree .short)
+
+  -- its model is good
+  pub good-text : GoodModel (modelOfText x)
+  unfolding modelOfText
+  good-text = rw (tree-is x (clean-tree .value) (clean-tree .reads)) (model-good (clean-tree .value) tree-short (clean-tree .clean))
+
+  -- its object count
+  pub object-count : n ≡ length (objectsOf (treeOf x))
+  object-count = rw (tree-is x (clean-tree .value) (clean-tree .reads)) (clean-tree .count)
+
+-- ---- texts that were laid
+
+-- an answer that is an acceptance or else a refusal
+laid-if : (b : Bool) (s k l n p : ℕ) → cond b (laid s k) (refused 18 p) ≡ laid l n → (b ≡ true) × (s ≡ l) × (k ≡ n)
+laid-if true s k l n p e = (refl, cc, cc)
+laid-if false s k l n p e = (cc, cc, cc)
+
+-- the same of a refusal
+refused-if : (b : Bool) (s k p q : ℕ) → cond b (laid s k) (refused 18 p) ≡ refused 18 q → b ≡ false
+refused-if true s k p q e = cc
+refused-if false s k p q e = refl
+
+-- what an acceptance tells
+pub record Laid (x : List ℕ) (r l n : ℕ) : Type 0 where
+  pub accepted : verdict x ≡ accepted n
+  pub size : l ≡ length (sheetOfText x)
+  pub fits : l ≤ r
+
+-- it is told so
+pub of-laid : (x : List ℕ) (r l n : ℕ) → answer x r ≡ laid l n → Laid x r l n
+unfolding answer fitted
+of-laid x r l n e = by (verdict x) refl e
+  where
+    by : (o : Verdict) → verdict x ≡ o → fitted x r o ≡ laid l n → Laid x r l n
+    by (judge.accepted k) q d = let (t, z, w) = laid-if _ _ _ _ _ _ d in record { accepted = q ∙ ap accepted w; size = sym z; fits = omega (arith, leb-true _ r t) }
+    by (judge.refused s p) q d = let z : _≡_ {A = ℕ} 0 1 = cc in absurd (omega arith)
+
+-- the room then holds the sheet, and zeros after it
+pub holds-sheet : (x : List ℕ) (r l n : ℕ) → answer x r ≡ laid l n → roomAfter x r ≡ sheetOfText x ++ replicate (r - l) 0
+unfolding roomAfter filled
+holds-sheet x r l n e = ap (filled x r) e
+
+-- so its first bytes are the sheet
+pub begins-sheet : (x : List ℕ) (r l n : ℕ) → answer x r ≡ laid l n → take l (roomAfter x r) ≡ sheetOfText x
+begins-sheet x r l n e = ap (take l) (holds-sheet x r l n e) ∙ take-at (sheetOfText x) (replicate (r - l) 0) l (sym (of-laid x r l n e .size))
+
+-- or zeros
+pub holds-zeros : (x : List ℕ) (r s p : ℕ) → answer x r ≡ refused s p → roomAfter x r ≡ replicate r 0
+unfolding roomAfter filled
+holds-zeros x r s p e = ap (filled x r) e
+
+-- every room keeps its length
+pub room-length : (x : List ℕ) (r : ℕ) → length (roomAfter x r) ≡ r
+room-length x r = by (answer x r) refl
+  where
+    by : (a : Answer) → answer x r ≡ a → length (roomAfter x r) ≡ r
+    by (laid l n) e =
+        let q = of-laid x r l n e in
+        omega (arith, ap length (holds-sheet x r l n e), length-append (sheetOfText x) (replicate (r - l) 0), length-replicate {A = ℕ} (r - l) 0, q .size, q .fits)
+    by (refused s p) e = ap length (holds-zeros x r s p e) ∙ length-replicate r 0
+
+-- accepted texts with the same sheet and the same object count have the same answers and leave the same bytes
+module _ (x y : List ℕ) (n r : ℕ) (s : sheetOfText x ≡ sheetOfText y) (e : verdict x ≡ accepted n) (f : verdict y ≡ accepted n) where
+  -- the same answer
+  pub same-answer : answer x r ≡ answer y r
+  unfolding answer fitted
+  same-answer = rw (e, f, s)
+
+  -- the same bytes for an answer
+  same-filled : (a : Answer) → filled x r a ≡ filled y r a
+  unfolding filled
+  same-filled (laid l k) = ap (λ t. t ++ replicate (r - l) 0) s
+  same-filled (refused k p) = refl
+
+  -- the same bytes
+  pub same-room : roomAfter x r ≡ roomAfter y r
+  unfolding roomAfter
+  same-room = ap (filled x r) same-answer ∙ same-filled (answer y r)
+
+-- ---- refusal 18
+
+-- a refusal by a rule below 18
+Low : Verdict → Type 0
+Low (judge.accepted n) = Unit {0}
+Low (judge.refused r p) = r < 18
+
+-- one of two such verdicts
+either-low : (b : Bool) (u v : Verdict) → Low u → Low v → Low (elim b [ true ↦ u | false ↦ v ])
+either-low true u v p q = p
+either-low false u v p q = q
+
+-- a tree's verdict
+given-low : (n f : ℕ) → Low (given n f)
+unfolding given Low ruleOf
+given-low n f = by (ltb f none) refl
+  where
+    by : (b : Bool) → ltb f none ≡ b → Low (cond b (judge.refused (ruleOf f) (placeIn f)) (accepted n))
+    by true e = omega (arith, ltb-true f none e)
+    by false e = tt
+
+-- a parsed text's
+parsed-low : (o : Outcome) → Low (parsed o)
+unfolding parsed judged Low
+parsed-low (reads v) = given-low (length (objectsOf v)) (least none (faults v))
+parsed-low (bad n) = omega arith
+parsed-low (tooDeep n) = omega arith
+
+-- judge never answers 18
+verdict-low : (x : List ℕ) → Low (verdict x)
+unfolding verdict Low
+verdict-low x =
+    either-low (ltb 65535 (length x)) _ _ (omega arith)
+    (either-low (ltb (wholeLength x) (length x)) _ _ (omega arith) (parsed-low (read x)))
+
+-- where 18 is answered, the text is accepted and its sheet is longer than the room
+pub too-long : (x : List ℕ) (r : ℕ) → answer x r ≡ refused 18 0 → ((n : ℕ) × (verdict x ≡ accepted n)) × (r < length (sheetOfText x))
+unfolding answer fitted Low
+too-long x r e = by (verdict x) refl e
+  where
+    by : (o : Verdict) → verdict x ≡ o → fitted x r o ≡ refused 18 0 → ((n : ℕ) × (verdict x ≡ accepted n)) × (r < length (sheetOfText x))
+    by (judge.accepted k) q d = ((k, q), leb-false _ r (refused-if _ _ _ _ _ d))
+    by (judge.refused s p) q d = let z : s ≡ 18 = cc in absurd (omega (arith, subst Low q (verdict-low x)))
+
+-- and the other way round
+pub does-not-fit : (x : List ℕ) (r n : ℕ) → verdict x ≡ accepted n → r < length (sheetOfText x) → answer x r ≡ refused 18 0
+unfolding answer fitted
+does-not-fit x r n e h = rw (e, lt-leb (length (sheetOfText x)) r h)

@@ -1,0 +1,65 @@
+-- The sheets of two sample texts of document 01, and rooms that are cleared, by computation. Assumes nothing.
+use Prim.Native.Nat.{ℕ}
+use mathlib.Core.Path.{_≡_, refl}
+use mathlib.Core.List.{List, [], _∷_, _++_}
+use Rattle.utf8.specs.Ascii.{ascii}
+use Rattle.json.specs.Tree.{_◂_, with}
+use Rattle.json.specs.Machine.{step, wantStep, gotStep, nextStep, nameStep, mantStep, noughtStep, isBlank, isDigit, isHex, isEscape}
+use Rattle.numerals.specs.Numerals.{decimal}
+use Rattle.words.specs.Words.{codeOf, objectWords, geometryWords, surfaceWords, depth, valuesDepth}
+use Rattle.nodes.specs.Access.{elements, members, nameOf, textOf, find}
+use Rattle.model.specs.Code.{le, signed, each}
+use Rattle.model.specs.Model.{layRec, layThree, layDecimal, minorCode, lodCode, layNest, layValue, layValues, laySurface, surfaceRecs, semanticsRecs, geometryRecs, objectRecs, modelRecs, layModel, numberOf, idsOf, numberObject, numberModel}
+use Rattle.model.specs.Read.{orNull, get, zeroIfNone, decimalOf, times, integerOf, natural, indexOf, valueOf, threeOf, nestOf, minorOf, lodOf, surfaceNamed, surfaceOf, semanticsOf, geometryOf, objectOf}
+use Rattle.model.specs.Read as read
+use Rattle.sheets.specs.Laid.{Answer, laid, refused, answer, sheetOfText, roomAfter}
+
+-- opening this opens all that an answer and a sheet need
+unfoldable lays : List ℕ → ℕ → Answer
+unfolding answer roomAfter ascii step wantStep gotStep nextStep nameStep mantStep noughtStep isBlank isDigit isHex isEscape _◂_ with decimal codeOf objectWords geometryWords surfaceWords depth valuesDepth elements members nameOf textOf find le signed each layRec layThree layDecimal minorCode lodCode layNest layValue layValues laySurface surfaceRecs semanticsRecs geometryRecs objectRecs modelRecs layModel numberOf idsOf numberObject numberModel orNull get read.numberOf zeroIfNone decimalOf times integerOf natural indexOf valueOf threeOf nestOf minorOf lodOf surfaceNamed surfaceOf semanticsOf geometryOf objectOf
+lays text room = answer text room
+
+-- CityJSON's minimal object
+minimal : List ℕ
+unfolding ascii
+minimal = ascii "{ \"type\": \"CityJSON\", \"version\": \"2.0\", \"transform\": { \"scale\": [1.0, 1.0, 1.0], \"translate\": [0.0, 0.0, 0.0] }, \"CityObjects\": {}, \"vertices\": [] }"
+
+-- it is laid
+minimal-laid : lays minimal 65536 ≡ laid 78 0
+unfolding lays minimal
+minimal-laid = refl
+
+-- in a room of just its length
+minimal-fits : lays minimal 78 ≡ laid 78 0
+unfolding lays minimal
+minimal-fits = refl
+
+-- one byte short
+minimal-short : lays minimal 77 ≡ refused 18 0
+unfolding lays minimal
+minimal-short = refl
+
+-- records of kinds 1, 2 and 9, of 66, 6 and 6 bytes
+minimal-sheet : sheetOfText minimal ≡
+    60 ∷ 0 ∷ 0 ∷ 0 ∷ 1 ∷ 0
+    ∷ 1 ∷ 0 ∷ 0 ∷ 0 ∷ 0 ∷ 0 ∷ 0 ∷ 0 ∷ 0 ∷ 0 ∷ 1 ∷ 0 ∷ 0 ∷ 0 ∷ 0 ∷ 0 ∷ 0 ∷ 0 ∷ 0 ∷ 0 ∷ 1 ∷ 0 ∷ 0 ∷ 0 ∷ 0 ∷ 0 ∷ 0 ∷ 0 ∷ 0 ∷ 0
+    ∷ 0 ∷ 0 ∷ 0 ∷ 0 ∷ 0 ∷ 0 ∷ 0 ∷ 0 ∷ 0 ∷ 0 ∷ 0 ∷ 0 ∷ 0 ∷ 0 ∷ 0 ∷ 0 ∷ 0 ∷ 0 ∷ 0 ∷ 0 ∷ 0 ∷ 0 ∷ 0 ∷ 0 ∷ 0 ∷ 0 ∷ 0 ∷ 0 ∷ 0 ∷ 0
+    ∷ 0 ∷ 0 ∷ 0 ∷ 0 ∷ 2 ∷ 0
+    ∷ 0 ∷ 0 ∷ 0 ∷ 0 ∷ 9 ∷ 0 ∷ []
+unfolding lays minimal
+minimal-sheet = refl
+
+-- what follows the sheet is cleared
+minimal-after : roomAfter minimal 80 ≡ sheetOfText minimal ++ 0 ∷ 0 ∷ []
+unfolding lays minimal
+minimal-after = refl
+
+-- document 01's kiosk
+kiosk : lays (ascii "{\"type\":\"CityJSON\",\"version\":\"2.0\",\"transform\":{\"scale\":[0.001,0.001,0.001],\"translate\":[0.0,0.0,0.0]},\"CityObjects\":{\"kiosk\":{\"type\":\"CityFurniture\",\"geometry\":[{\"type\":\"MultiPoint\",\"lod\":\"1\",\"boundaries\":[0]}]}},\"vertices\":[[10,-20,30]]}") 65536 ≡ laid 133 1
+unfolding lays
+kiosk = refl
+
+-- a refusal clears the room
+cleared : roomAfter (ascii "{}") 3 ≡ 0 ∷ 0 ∷ 0 ∷ []
+unfolding lays
+cleared = refl

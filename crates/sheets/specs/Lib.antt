@@ -1,0 +1,9 @@
+-- What lay answers for a text and a room, what each byte of the lent sheet is afterwards, and demand 3.
+pub mod Laid
+pub mod Clear
+pub mod Numbers
+pub mod Short
+pub mod Faultless
+pub mod Answers
+pub mod Theorems
+pub mod Examples

@@ -1,0 +1,74 @@
+-- What is proved of lay's answers and of the lent sheet, for texts and rooms of any sizes (document 01, demand 3 and "Town and sheet"). Assumes nothing.
+use Prim.Native.Nat.{ℕ, _-_, _^_, _≤_, _<_}
+use mathlib.Core.Path.{_≡_, sym, ap, _∙_}
+use mathlib.Core.List.{List, _++_}
+use mathlib.Core.Logic.{_≢_, _↔_}
+use lib.ListN.{length, take, replicate, length-map}
+use Rattle.nodes.specs.Access.{members}
+use Rattle.verdict.specs.Verdict.{accepted, verdict}
+use Rattle.model.specs.Model.{sheetOf}
+use Rattle.model.specs.Good.{GoodModel}
+use Rattle.model.specs.Read.{get, objectOf, modelOf}
+use Rattle.model.specs.Demand.{same-sheet-same-model, Begins, neither-begins}
+use Rattle.model.specs.Alike.{Alike, alike-same-model}
+use Rattle.sheets.specs.Laid.{treeOf, modelOfText, sheetOfText, laid, refused, answer, roomAfter}
+use Rattle.sheets.specs.Clear.{objects-members}
+use Rattle.sheets.specs.Answers.{good-text, object-count, of-laid, holds-sheet, begins-sheet, holds-zeros, room-length, same-answer, same-room, too-long, does-not-fit}
+
+-- an accepted text's model is as document 01 asks (rules 10, 12, 13 and 15), and its sheet is shorter than 2^32 bytes
+pub good : (x : List ℕ) (n : ℕ) → verdict x ≡ accepted n → GoodModel (modelOfText x)
+good = good-text
+
+-- and its object count is that of the model
+pub count : (x : List ℕ) (n : ℕ) → verdict x ≡ accepted n → n ≡ length (modelOfText x .objects)
+unfolding modelOfText modelOf
+count x n e = object-count x n e ∙ ap length (objects-members (treeOf x)) ∙ sym (length-map (members (get "CityObjects" (treeOf x))) objectOf)
+
+-- an acceptance gives the sheet's length, which is no more than the room and below 2^32, and the object count
+pub sizes : (x : List ℕ) (r l n : ℕ) → answer x r ≡ laid l n → (l ≡ length (sheetOfText x)) × (l ≤ r) × (l < 2 ^ 32) × (n ≡ length (modelOfText x .objects))
+unfolding sheetOfText
+sizes x r l n e =
+    let q = of-laid x r l n e in
+    (q .size, q .fits, rw (q .size) (good x n (q .accepted) .short), count x n (q .accepted))
+
+-- demand 3: the bytes that two acceptances give tell their models
+pub tells : (x y : List ℕ) (r s l m n k : ℕ) → answer x r ≡ laid l n → answer y s ≡ laid m k → (take l (roomAfter x r) ≡ take m (roomAfter y s)) ↔ (modelOfText x ≡ modelOfText y)
+unfolding sheetOfText
+tells x y r s l m n k e f =
+    rw (begins-sheet x r l n e, begins-sheet y s m k f) (same-sheet-same-model (modelOfText x) (modelOfText y) (good x n (of-laid x r l n e .accepted)) (good y k (of-laid y s m k f .accepted)))
+
+-- and if the models differ, neither begins the other
+pub apart : (x y : List ℕ) (r s l m n k : ℕ) → answer x r ≡ laid l n → answer y s ≡ laid m k → modelOfText x ≢ modelOfText y
+    → (¬ Begins (take l (roomAfter x r)) (take m (roomAfter y s))) × (¬ Begins (take m (roomAfter y s)) (take l (roomAfter x r)))
+unfolding sheetOfText
+apart x y r s l m n k e f d =
+    rw (begins-sheet x r l n e, begins-sheet y s m k f) (neither-begins (modelOfText x) (modelOfText y) (good x n (of-laid x r l n e .accepted)) (good y k (of-laid y s m k f .accepted)) d)
+
+-- an acceptance leaves the sheet in the room, and zeros after it
+pub sheet-then-zeros : (x : List ℕ) (r l n : ℕ) → answer x r ≡ laid l n → roomAfter x r ≡ sheetOfText x ++ replicate (r - l) 0
+sheet-then-zeros = holds-sheet
+
+-- a refusal leaves zeros
+pub all-zeros : (x : List ℕ) (r s p : ℕ) → answer x r ≡ refused s p → roomAfter x r ≡ replicate r 0
+all-zeros = holds-zeros
+
+-- and the room keeps its length
+pub room : (x : List ℕ) (r : ℕ) → length (roomAfter x r) ≡ r
+room = room-length
+
+-- 18 is answered exactly if the text is accepted and its sheet is longer than the room
+pub eighteen : (x : List ℕ) (r : ℕ) → (answer x r ≡ refused 18 0) ↔ (((n : ℕ) × (verdict x ≡ accepted n)) × (r < length (sheetOfText x)))
+eighteen x r = (too-long x r, (λ ((n, e), h). does-not-fit x r n e h))
+
+-- alike texts have the same model and the same sheet
+pub alike : (x y : List ℕ) → Alike (treeOf x) (treeOf y) → (modelOfText x ≡ modelOfText y) × (sheetOfText x ≡ sheetOfText y)
+unfolding modelOfText sheetOfText
+alike x y a = let e = alike-same-model (treeOf x) (treeOf y) a in (e, ap sheetOf e)
+
+-- so if both are accepted, they have the same answer and leave the same bytes, in every room
+pub alike-rooms : (x y : List ℕ) (n m r : ℕ) → verdict x ≡ accepted n → verdict y ≡ accepted m → Alike (treeOf x) (treeOf y) → (answer x r ≡ answer y r) × (roomAfter x r ≡ roomAfter y r)
+alike-rooms x y n m r e f a =
+    let (p, q) = alike x y a in
+    let c : n ≡ m = count x n e ∙ ap (λ t. length (t .objects)) p ∙ sym (count y m f) in
+    let g : verdict x ≡ accepted m = e ∙ ap accepted c in
+    (same-answer x y m r q g f, same-room x y m r q g f)

@@ -1,0 +1,6 @@
+-- The verdict of a text.
+pub mod Verdict
+pub mod Examples
+pub mod RuleExamples
+pub mod Places
+pub mod Exact

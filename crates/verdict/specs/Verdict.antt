@@ -1,0 +1,49 @@
+-- The verdict of a text (document 01, section "Verdict and place"). Assumes nothing: these are definitions.
+use Prim.Native.Nat.{ℕ, _+_}
+use mathlib.Core.Bool.{Bool, true, false, cond}
+use mathlib.Core.List.{List, [], _∷_, _++_, map}
+use lib.ListN.{length}
+use lib.Dec.{ltb}
+use Rattle.utf8.specs.Utf8.{wholeLength}
+use Rattle.json.specs.Tree.{Json}
+use Rattle.json.specs.Machine.{Outcome, reads, bad, tooDeep, read}
+use Rattle.nodes.specs.Everywhere.{rule5, rule6}
+use Rattle.nodes.specs.Faults.{fault, ruleOf, placeIn, least, none}
+use Rattle.fields.specs.Fields.{objectsOf}
+use Rattle.schema.specs.Schema.{cityJson}
+use Rattle.links.specs.Links.{linkFaults}
+
+-- acceptance gives the object count; a refusal carries its number and its place together
+pub data Verdict : Type 0 where
+  accepted : (objects : ℕ) → Verdict
+  refused : (rule place : ℕ) → Verdict
+
+-- all faults of a tree, by rules 5 to 17
+unfoldable pub faults : Json → List ℕ
+unfolding fault rule5 rule6 cityJson linkFaults
+faults v = map (fault 5) (rule5 v) ++ map (fault 6) (rule6 v) ++ cityJson v ++ linkFaults v
+
+-- "The lowest broken number is given, and for it the smallest place"
+unfoldable pub given : ℕ → ℕ → Verdict
+unfolding ruleOf placeIn
+given objects f = cond (ltb f none) (refused (ruleOf f) (placeIn f)) (accepted objects)
+
+unfoldable pub judged : Json → Verdict
+unfolding given least faults objectsOf
+judged v = given (length (objectsOf v)) (least none (faults v))
+
+-- rules 3 and 4
+unfoldable pub parsed : Outcome → Verdict
+unfolding judged
+parsed (reads v) = judged v
+parsed (bad n) = refused 3 n
+parsed (tooDeep n) = refused 4 n
+
+-- rules 1 and 2 come first
+unfoldable pub verdict : List ℕ → Verdict
+unfolding parsed read wholeLength
+verdict text =
+    elim (ltb 65535 (length text)) [
+      | true ↦ refused 1 65535
+      | false ↦ elim (ltb (wholeLength text) (length text)) [ true ↦ refused 2 (wholeLength text) | false ↦ parsed (read text) ]
+    ]

@@ -1,0 +1,1 @@
+// The verdict of a text: definitions and theorems. There is no code here.
