@@ -151,11 +151,11 @@ judges s h = record { is = λ v e. h ∙ ap judged (cc) }
 
 -- ---- at most 1,024 objects
 
-nil-left : {A : Type 0} (l m : List A) → l ++ m ≡ [] → l ≡ []
+pub nil-left : {A : Type 0} (l m : List A) → l ++ m ≡ [] → l ≡ []
 nil-left [] m e = refl
 nil-left (a ∷ l) m e = cc
 
-nil-right : {A : Type 0} (l m : List A) → l ++ m ≡ [] → m ≡ []
+pub nil-right : {A : Type 0} (l m : List A) → l ++ m ≡ [] → m ≡ []
 nil-right [] m e = e
 nil-right (a ∷ l) m e = cc
 

@@ -1,7 +1,7 @@
 -- What judge answers, in document 01's numbers. Assumes nothing: these are definitions.
 use mathlib.Core.Path.{_≡_}
 use mathlib.Core.List.{List}
-use Prim.Native.Nat.{ℕ, _≤_}
+use Prim.Native.Nat.{ℕ, _+_, _*_, _^_, _≤_}
 use lib.ListN.{length}
 use Rattle.json.specs.Tree.{Json}
 use Rattle.json.specs.Machine.{read, reads}
@@ -38,6 +38,11 @@ unfoldable pub told : Verdict → verdict.Verdict
 unfolding numberOf
 told (Accepted n) = verdict.accepted n
 told (Refused r) = verdict.refused (numberOf (r .rule)) (r .place)
+
+-- an answer in one word: bits 56 to 63 the rule's number, 0 for acceptance; bits 0 to 31 the place of a refusal; bits 32 to 55 the object count
+unfoldable pub word : verdict.Verdict → ℕ
+word (verdict.accepted n) = n * 2 ^ 32
+word (verdict.refused rule place) = rule * 2 ^ 56 + place
 
 -- the first n words of the table t are those of the tree that the text x, which is not too long, is read as
 pub record Stands (x t : List ℕ) (n : ℕ) : Type 0 where

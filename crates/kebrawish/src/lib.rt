@@ -1,11 +1,11 @@
 // Judges a CityJSON text by the rules of document 01.
-ghost use Prim.Native.Nat.{_+_, _*_, _/_, _%_, _≤_, _<_};
+ghost use Prim.Native.Nat.{_+_, _*_, _^_, _/_, _%_, _≤_, _<_};
 ghost use mathlib.Core.Path.{_≡_};
 ghost use lib.ListN.{length};
 ghost use Rattle.nodes.specs.Faults.{none, ruleOf, placeIn};
 ghost use Rattle.verdict.specs.Verdict.{refused, parsed, verdict};
 ghost use Rattle.json.specs.Machine.{read};
-ghost use Rattle.kebrawish.specs.Answers.{numberOf, told, Stands, Judges};
+ghost use Rattle.kebrawish.specs.Answers.{numberOf, told, word, Stands, Judges};
 use json::Parsed;
 
 // The rules of document 01 that a text can break.
@@ -156,5 +156,28 @@ pub fn number_of(rule: Broken) -> u32
         Broken::NoParent => 16,
         Broken::OneSidedLink => 17,
         Broken::NoRoom => 18,
+    }
+}
+
+// A refusal in one word.
+fn packed(rule: u32, place: usize) -> u64
+    requires { ⌜ (rule < 256) × (place < 2 ^ 32) ⌝ }
+    ensures { λ r. ⌜ r ≡ word (refused rule place) ⌝ }
+{
+    rule as u64 * 0x100_0000_0000_0000 + place as u64
+}
+
+// What judge answers, in one word.
+#[no_mangle]
+pub extern "C" fn kebrawish_judge(text: &[u8]) -> u64
+    ensures { λ r. ⌜ r ≡ word (verdict (now (text .entry))) ⌝ }
+{
+    let answer = judge(text);
+    match answer {
+        Verdict::Accepted(n) => n as u64 * 0x1_0000_0000,
+        Verdict::Refused(refusal) => {
+            let rule = refusal.rule;
+            packed(number_of(rule), refusal.place)
+        }
     }
 }

@@ -1,0 +1,224 @@
+//! Texts at the limits of length, depth and count.
+
+use crate::samples::{town, MINIMAL};
+use crate::TEXT_LIMIT;
+
+/// A text at a limit, with a few words that say what it is and the rule it breaks, 0 for
+/// none.
+pub struct Large {
+    pub label: &'static str,
+    pub text: Vec<u8>,
+    pub rule: u8,
+}
+
+/// The texts at the limits.
+pub fn large_texts() -> Vec<Large> {
+    let texts = texts();
+    let large = |(rule, label, text)| Large { label, text, rule };
+    texts.into_iter().map(large).collect()
+}
+
+fn texts() -> Vec<(u8, &'static str, Vec<u8>)> {
+    vec![
+        (4, "open arrays", vec![b'['; TEXT_LIMIT]),
+        (3, "white space", vec![b' '; TEXT_LIMIT]),
+        (7, "digits", vec![b'7'; TEXT_LIMIT]),
+        (3, "quotes", vec![b'"'; TEXT_LIMIT]),
+        (2, "bytes FF", vec![0xFF; TEXT_LIMIT]),
+        (1, "too many bytes FF", vec![0xFF; TEXT_LIMIT + 1]),
+        (1, "a million arrays", vec![b'['; 1_000_000]),
+        (0, "32 levels in metadata", with_metadata(&nested(31))),
+        (4, "33 levels in metadata", with_metadata(&nested(32))),
+        (
+            0,
+            "many deep arrays",
+            with_metadata(&list(&nested(30), 500)),
+        ),
+        (0, "empty arrays", with_metadata(&list("[]", 21_000))),
+        (0, "empty objects", with_metadata(&list("{}", 21_000))),
+        (
+            0,
+            "a long string",
+            with_metadata(&format!("\"{}\"", "é".repeat(32_000))),
+        ),
+        (
+            0,
+            "many escapes",
+            with_metadata(&format!("\"{}\"", "\\u00e9".repeat(10_800))),
+        ),
+        (
+            0,
+            "many pairs",
+            with_metadata(&format!("\"{}\"", r"\uD83D\uDE00".repeat(5_400))),
+        ),
+        (0, "many names", with_metadata(&many_names(6_000, ""))),
+        (
+            0,
+            "many names with one start",
+            with_metadata(&many_names(900, &"n".repeat(60))),
+        ),
+        (
+            6,
+            "a repeated name at the end",
+            with_metadata(&repeated_at_the_end(6_000)),
+        ),
+        (
+            0,
+            "a long numeral",
+            with_scale(&format!("1{}e-60000", "0".repeat(60_000))),
+        ),
+        (
+            0,
+            "a long fraction",
+            with_scale(&format!("0.{}1e60001", "0".repeat(60_000))),
+        ),
+        (
+            13,
+            "a long exponent",
+            with_scale(&format!("1e{}", "9".repeat(60_000))),
+        ),
+        (
+            0,
+            "many zeros in an exponent",
+            with_scale(&format!("1e{}1", "0".repeat(60_000))),
+        ),
+        (
+            0,
+            "a long zero",
+            with_scale(&format!("0.{}", "0".repeat(60_000))),
+        ),
+        (
+            0,
+            "vertices",
+            town("", &repeated("[0,0,0]", 8_100)).into_bytes(),
+        ),
+        (13, "vertices out of range", out_of_range(8_000)),
+        (0, "1,024 objects", objects(1_024)),
+        (9, "1,025 objects", objects(1_025)),
+        (0, "a family", family("CityFurniture", true)),
+        (0, "a group", family("CityObjectGroup", false)),
+        (
+            17,
+            "a family with one-sided links",
+            family("CityFurniture", false),
+        ),
+        (0, "a long boundary", with_points(&list("0", 32_500))),
+        (
+            0,
+            "a boundary of empty arrays",
+            with_lines(&list("[]", 21_700)),
+        ),
+        (
+            0,
+            "a long ID",
+            town(
+                &format!(r#""{}":{{"type":"Road"}}"#, "i".repeat(65_000)),
+                "",
+            )
+            .into(),
+        ),
+        (0, "many geometries", many_geometries(1_100)),
+        (0, "many values", many_values(13_000)),
+        (0, "many surfaces", many_surfaces(3_000)),
+    ]
+}
+
+/// A value written `count` times with commas between.
+fn repeated(value: &str, count: usize) -> String {
+    vec![value; count].join(",")
+}
+
+fn list(value: &str, count: usize) -> String {
+    format!("[{}]", repeated(value, count))
+}
+
+/// Arrays and objects in turn, of the given depth.
+fn nested(levels: usize) -> String {
+    let open: String = (0..levels)
+        .map(|level| ["[", "{\"a\":"][level % 2])
+        .collect();
+    let close: String = (0..levels)
+        .rev()
+        .map(|level| ["]", "}"][level % 2])
+        .collect();
+    format!("{open}null{close}")
+}
+
+fn with_metadata(value: &str) -> Vec<u8> {
+    let start = format!(r#"{{"metadata":{value},"#);
+    MINIMAL.replacen('{', &start, 1).into_bytes()
+}
+
+fn with_scale(numeral: &str) -> Vec<u8> {
+    MINIMAL.replacen("1.0", numeral, 1).into_bytes()
+}
+
+fn many_names(count: usize, start: &str) -> String {
+    let names: Vec<String> = (0..count).map(|n| format!("\"{start}{n}\":0")).collect();
+    format!("{{{}}}", names.join(","))
+}
+
+fn repeated_at_the_end(count: usize) -> String {
+    let names = many_names(count, "");
+    format!(r#"{},"\u0030":0}}"#, names.trim_end_matches('}'))
+}
+
+fn out_of_range(count: usize) -> Vec<u8> {
+    let vertices = format!("{},[0,0,2147483648]", repeated("[0,0,0]", count));
+    town("", &vertices).into_bytes()
+}
+
+fn objects(count: usize) -> Vec<u8> {
+    let object = |number| format!(r#""{number}":{{"type":"Road"}}"#);
+    let list: Vec<String> = (0..count).map(object).collect();
+    town(&list.join(","), "").into_bytes()
+}
+
+/// One object with 1,000 children, which list it as parent or list none.
+fn family(word: &str, returned: bool) -> Vec<u8> {
+    let ids: Vec<String> = (0..1_000).map(|number| format!("\"{number}\"")).collect();
+    let parents = if returned { r#","parents":["p"]"# } else { "" };
+    let child = |id: &String| format!(r#"{id}:{{"type":"Road"{parents}}}"#);
+    let children: Vec<String> = ids.iter().map(child).collect();
+    let parent = format!(r#""p":{{"type":"{word}","children":[{}]}}"#, ids.join(","));
+    town(&format!("{parent},{}", children.join(",")), "").into_bytes()
+}
+
+fn with_geometries(geometries: &str) -> Vec<u8> {
+    let object = format!(r#""a":{{"type":"Road","geometry":[{geometries}]}}"#);
+    town(&object, "[0,0,0]").into_bytes()
+}
+
+fn with_points(boundary: &str) -> Vec<u8> {
+    with_geometries(&format!(
+        r#"{{"type":"MultiPoint","lod":"1","boundaries":{boundary}}}"#
+    ))
+}
+
+fn with_lines(boundary: &str) -> Vec<u8> {
+    with_geometries(&format!(
+        r#"{{"type":"MultiLineString","lod":"1","boundaries":{boundary}}}"#
+    ))
+}
+
+fn many_geometries(count: usize) -> Vec<u8> {
+    let geometry = r#"{"type":"MultiPoint","lod":"1","boundaries":[0]}"#;
+    with_geometries(&repeated(geometry, count))
+}
+
+fn many_values(count: usize) -> Vec<u8> {
+    let boundary = list("0", count);
+    let values = list("0", count);
+    let semantics = format!(r#"{{"surfaces":[{{"type":"Door"}}],"values":{values}}}"#);
+    with_geometries(&format!(
+        r#"{{"type":"MultiPoint","lod":"1","boundaries":{boundary},"semantics":{semantics}}}"#
+    ))
+}
+
+fn many_surfaces(count: usize) -> Vec<u8> {
+    let surfaces = list(r#"{"type":"+x"}"#, count);
+    let semantics = format!(r#"{{"surfaces":{surfaces},"values":[{}]}}"#, count - 1);
+    with_geometries(&format!(
+        r#"{{"type":"MultiPoint","lod":"1","boundaries":[0],"semantics":{semantics}}}"#
+    ))
+}

@@ -1,0 +1,919 @@
+//! Tests of the reader alone. The expected values come from the rules' text.
+
+use std::collections::BTreeMap;
+use std::io::Write;
+use std::process::{Command, Stdio};
+
+use kebrawish_tests::decimal::{self, Pair};
+use kebrawish_tests::generate::{self, Expected, Random};
+use kebrawish_tests::samples::{self, town, MINIMAL};
+use kebrawish_tests::{json, judge, lay, published, read, sheet, Refusal, Verdict};
+
+const SEED: u64 = 20_240_501;
+
+/// A text with one CityFurniture that has one geometry, over one vertex.
+fn with_geometry(geometry: &str) -> String {
+    let object = format!(r#""a":{{"type":"CityFurniture","geometry":[{geometry}]}}"#);
+    town(&object, "[0,0,0]")
+}
+
+/// A geometry of lod 1.
+fn shape(word: &str, boundary: &str) -> String {
+    format!(r#"{{"type":"{word}","lod":"1","boundaries":{boundary}}}"#)
+}
+
+/// A geometry of lod 1 with semantics.
+fn shape_with_semantics(word: &str, boundary: &str, surfaces: &str, values: &str) -> String {
+    let semantics = format!(r#"{{"surfaces":{surfaces},"values":{values}}}"#);
+    let shape = shape(word, boundary);
+    let start = shape.strip_suffix('}').unwrap();
+    format!(r#"{start},"semantics":{semantics}}}"#)
+}
+
+fn with_scale(number: &str) -> String {
+    MINIMAL.replacen("1.0", number, 1)
+}
+
+fn refused(rule: u8, place: usize) -> Verdict {
+    Verdict::Refused { rule, place }
+}
+
+fn accepted(objects: usize) -> Verdict {
+    let length = 0;
+    Verdict::Accepted { length, objects }
+}
+
+#[track_caller]
+fn check(text: &str, expected: Verdict) {
+    assert_eq!(judge(text.as_bytes()), expected, "{text}");
+}
+
+/// Checks that the text is refused by the rule at the one place where `part` begins.
+#[track_caller]
+fn check_at(text: &str, rule: u8, part: &str) {
+    assert_eq!(text.matches(part).count(), 1, "{part} in {text}");
+    check(text, refused(rule, text.find(part).unwrap()));
+}
+
+/// Checks that the text is refused by the rule where `part` begins for the last time.
+#[track_caller]
+fn check_at_last(text: &str, rule: u8, part: &str) {
+    check(text, refused(rule, text.rfind(part).unwrap()));
+}
+
+#[test]
+fn sample_readings() {
+    for (text, expected) in samples::readings() {
+        let (verdict, bytes) = lay(&text, 65_536);
+        assert_eq!(verdict, expected, "{}", String::from_utf8_lossy(&text));
+        let length = match verdict {
+            Verdict::Accepted { length, .. } => length,
+            Verdict::Refused { .. } => 0,
+        };
+        assert!(bytes[length..].iter().all(|byte| *byte == 0));
+        let judged = judge(&text);
+        match expected {
+            Verdict::Accepted { objects, .. } => assert_eq!(judged, accepted(objects)),
+            Verdict::Refused { .. } => assert_eq!(judged, expected),
+        }
+    }
+}
+
+#[test]
+fn the_minimal_sheet_is_three_records() {
+    let (_, bytes) = lay(MINIMAL.as_bytes(), 78);
+    let mut expected = vec![60, 0, 0, 0, 1, 0];
+    for _ in 0..3 {
+        expected.extend([1, 0, 0, 0, 0, 0, 0, 0, 0, 0]);
+    }
+    expected.extend([0; 30]);
+    expected.extend([0, 0, 0, 0, 2, 0]);
+    expected.extend([0, 0, 0, 0, 9, 0]);
+    assert_eq!(bytes, expected);
+}
+
+#[test]
+fn the_kiosk() {
+    let text = samples::kiosk();
+    let (verdict, bytes) = lay(text.as_bytes(), 133);
+    let length = 133;
+    assert_eq!(verdict, Verdict::Accepted { length, objects: 1 });
+    let mut tail = vec![12, 0, 0, 0, 2, 0];
+    tail.extend([7, 0, 0, 0, 255, 255, 255, 255, 0, 1, 0, 0]);
+    tail.extend([7, 0, 0, 0, 3, 0, 3, 0]);
+    tail.extend(b"kiosk");
+    tail.extend([0, 0, 0, 0, 4, 0]);
+    tail.extend([0, 0, 0, 0, 5, 0]);
+    tail.extend([12, 0, 0, 0, 6, 0, 1, 0, 31, 0, 1, 0, 0, 0, 0, 0, 0, 0]);
+    tail.extend([0, 0, 0, 0, 9, 0]);
+    assert_eq!(bytes[66..], tail);
+}
+
+#[test]
+fn semantics_and_links_on_the_sheet() {
+    let surfaces = r#"[{"type":"Window"},{"type":"+é"}]"#;
+    let boundary = "[[[[0,0,0]],[[0]]],[]]";
+    let solid = shape_with_semantics("Solid", boundary, surfaces, "[[1,null],[]]")
+        .replace("\"1\"", "\"2.1\"");
+    let parent = r#""p":{"type":"Building","children":["c"]}"#;
+    let start = r#""c":{"type":"BuildingPart","parents":["p"]"#;
+    let objects = format!(r#"{parent},{start},"geometry":[{solid}]}}"#);
+    let text = town(&objects, "[0,0,0]");
+    let (verdict, bytes) = lay(text.as_bytes(), 1_000);
+    let mut tail = Vec::new();
+    tail.extend([3, 0, 0, 0, 3, 0, 2, 0, b'p']);
+    tail.extend([4, 0, 0, 0, 4, 0, 1, 0, 0, 0]);
+    tail.extend([0, 0, 0, 0, 5, 0]);
+    tail.extend([3, 0, 0, 0, 3, 0, 22, 0, b'c']);
+    tail.extend([0, 0, 0, 0, 4, 0]);
+    tail.extend([4, 0, 0, 0, 5, 0, 0, 0, 0, 0]);
+    // Two shells: one of two surfaces of one ring each, and an empty one.
+    let words: [u32; 11] = [2, 2, 1, 3, 0, 0, 0, 1, 1, 0, 0];
+    tail.extend([48, 0, 0, 0, 6, 0, 5, 0, 33, 0]);
+    tail.extend(words.iter().flat_map(|word| word.to_le_bytes()));
+    tail.extend([2, 0, 0, 0, 7, 0, 7, 0]);
+    tail.extend([5, 0, 0, 0, 7, 0, 19, 0, b'+', 0xC3, 0xA9]);
+    tail.extend([8, 0, 0, 0, 8, 0, 1, 0, 0, 0, 255, 255, 255, 255]);
+    tail.extend([0, 0, 0, 0, 9, 0]);
+    let length = 66 + 18 + tail.len();
+    assert_eq!(verdict, Verdict::Accepted { length, objects: 2 });
+    assert_eq!(bytes[84..length], tail);
+    assert!(bytes[length..].iter().all(|byte| *byte == 0));
+}
+
+/// The reader program's line for a text.
+fn line(arguments: &[&str], text: &[u8]) -> String {
+    let mut child = Command::new(env!("CARGO_BIN_EXE_reader"))
+        .args(arguments)
+        .stdin(Stdio::piped())
+        .stdout(Stdio::piped())
+        .spawn()
+        .expect("the reader");
+    let mut input = child.stdin.take().expect("its standard input");
+    input.write_all(text).expect("the text is read");
+    drop(input);
+    let output = child.wait_with_output().expect("its answer");
+    String::from_utf8(output.stdout).expect("its line")
+}
+
+#[test]
+fn the_printed_line() {
+    let minimal = MINIMAL.as_bytes();
+    assert_eq!(line(&[], minimal), "laid 78 bytes, objects 0\n");
+    assert_eq!(line(&[], b"{}"), "refused 8 at 0\n");
+    assert_eq!(line(&["--judge"], minimal), "accepted, objects 0\n");
+    assert_eq!(line(&["--judge"], b"{}"), "refused 8 at 0\n");
+}
+
+#[test]
+fn lengths() {
+    assert_eq!(judge(&[0xFF; 65_536]), refused(1, 65_535));
+    assert_eq!(judge(&[0xFF; 65_535]), refused(2, 0));
+    assert_eq!(judge(&[b' '; 65_535]), refused(3, 65_535));
+    assert_eq!(judge(&vec![b'['; 1_000_000]), refused(1, 65_535));
+    let mut text = MINIMAL.as_bytes().to_vec();
+    text.resize(65_535, b'\n');
+    assert_eq!(judge(&text), accepted(0));
+    text.push(b' ');
+    assert_eq!(judge(&text), refused(1, 65_535));
+}
+
+#[test]
+fn utf8() {
+    assert_eq!(judge(b"[\"\xC3\xA9\xC3"), refused(2, 4));
+    assert_eq!(judge(b"?\xED\xA0\x80"), refused(2, 1));
+    assert_eq!(judge(b"[\xF4\x90\x80\x80"), refused(2, 1));
+    check("\u{FEFF}{}", refused(3, 0));
+    check("\u{e9}", refused(3, 0));
+    check("\"\u{10FFFF}\"", refused(7, 0));
+}
+
+#[test]
+fn depth() {
+    let open = "[".repeat(32);
+    check(&format!("{open}[?"), refused(4, 32));
+    check(&format!("{open}{{"), refused(4, 32));
+    check(&format!("{open}1["), refused(3, 33));
+    check(&format!("{open}]["), refused(3, 33));
+    check(&format!("{open}],["), refused(3, 35));
+    check(&format!("{open}],[["), refused(4, 35));
+}
+
+#[test]
+fn names_and_words_are_decoded() {
+    check(&MINIMAL.replace("\"type\"", r#""ty\u0070e""#), accepted(0));
+    check(&MINIMAL.replace("CityJSON", r"City\u004aSON"), accepted(0));
+    check(&MINIMAL.replace("2.0", r"2\u002e0"), accepted(0));
+    let text = MINIMAL.replacen('{', r#"{"ty\u0070e":"CityJSON","#, 1);
+    check_at(&text, 6, "\"type\"");
+}
+
+#[test]
+fn unexamined_parts() {
+    let inside = |value: &str| MINIMAL.replacen('{', &format!(r#"{{"metadata":{value},"#), 1);
+    check(&inside(r#"{"type":1,"lod":2,"children":3}"#), accepted(0));
+    check_at(&inside(r#"[["\uDC00"]]"#), 5, r"\uDC00");
+    check_at(&inside(r#"[{"x":1,"\u0078":2}]"#), 6, r#""\u0078""#);
+    let attributes = r#"{"type":1,"geometry":2,"children":{}}"#;
+    let object = format!(r#""a":{{"type":"Road","lod":5,"attributes":{attributes}}}"#);
+    check(&town(&object, ""), accepted(1));
+    check_at(&town(r#""a":{"type":"Road","attributes":77}"#, ""), 7, "77");
+    let surfaces = r#"[{"type":"Door","children":"x","parent":{},"lod":0}]"#;
+    let geometry = shape_with_semantics("MultiPoint", "[0]", surfaces, "[0]");
+    check(&with_geometry(&geometry), accepted(1));
+    check(
+        &MINIMAL.replace("\"scale\"", r#""type":3,"scale""#),
+        accepted(0),
+    );
+}
+
+#[test]
+fn the_lowest_rule_then_the_least_place() {
+    check(r#"{"type":1,"x":{"a":1,"a":1}}"#, refused(6, 21));
+    check(r#"{"vertices":1,"type":2}"#, refused(7, 12));
+    check(r#"{"type":"x","a":["\uD800"],"a":1}"#, refused(5, 18));
+    check("[1,\u{1}\"\\uD800\"", refused(3, 3));
+}
+
+#[test]
+fn object_and_surface_types_with_plus() {
+    let object = |word: &str| town(&format!(r#""a":{{"type":"{word}"}}"#), "");
+    check_at(&object("+"), 11, "\"+\"");
+    check_at(&object("+Noise"), 11, "\"+Noise\"");
+    check_at(&object("GeometryInstance"), 10, "\"GeometryInstance\"");
+    let geometry = |word: &str| with_geometry(&shape(word, "[0]"));
+    check_at(&geometry("+x"), 10, "\"+x\"");
+    check_at(&geometry("GeometryInstance"), 11, "\"GeometryInstance\"");
+    let surface = |word: &str| {
+        let surfaces = format!(r#"[{{"type":"{word}"}}]"#);
+        with_geometry(&shape_with_semantics("MultiPoint", "[0]", &surfaces, "[0]"))
+    };
+    check_at(&surface("+"), 10, "\"+\"");
+    check(&surface("+x"), accepted(1));
+    check_at(&surface("Roof"), 10, "\"Roof\"");
+}
+
+#[test]
+fn an_instance_is_examined_by_rules_7_8_and_10() {
+    let instance = |rest: &str| with_geometry(&format!(r#"{{"type":"GeometryInstance"{rest}}}"#));
+    check_at(
+        &instance(r#","boundaries":[0],"template":0"#),
+        11,
+        "\"GeometryInstance\"",
+    );
+    check_at(&instance(""), 8, r#"{"type":"GeometryInstance"}"#);
+    check_at(&instance(r#","boundaries":77"#), 7, "77");
+    check_at(&instance(r#","boundaries":[],"lod":77"#), 7, "77");
+    check_at(&instance(r#","boundaries":[],"lod":"x""#), 10, "\"x\"");
+    check_at(&instance(r#","boundaries":[],"semantics":77"#), 7, "77");
+    let semantics = r#","boundaries":[],"semantics":{"surfaces":[]}"#;
+    check_at(&instance(semantics), 8, r#"{"surfaces":[]}"#);
+    let semantics = r#","boundaries":[],"semantics":{"surfaces":[{"type":"x"}],"values":[5]}"#;
+    check_at(&instance(semantics), 10, "\"x\"");
+    check_at(
+        &instance(r#","boundaries":[9,{}]"#),
+        11,
+        "\"GeometryInstance\"",
+    );
+}
+
+#[test]
+fn required_members() {
+    for name in ["type", "version", "transform", "CityObjects", "vertices"] {
+        let text = MINIMAL.replace(&format!("\"{name}\""), "\"other\"");
+        check(&text, refused(8, 0));
+    }
+    check_at(&MINIMAL.replace("\"scale\"", "\"x\""), 8, r#"{"x":["#);
+    check_at(&MINIMAL.replace("\"translate\"", "\"x\""), 8, r#"{"scale""#);
+    check_at(&town(r#""a":  {"lod":"1"}"#, ""), 8, r#"{"lod""#);
+    let geometry = r#"{"type":"MultiPoint","boundaries":[0]}"#;
+    check_at(&with_geometry(geometry), 8, geometry);
+    let geometry = r#"{"lod":"1","boundaries":[0]}"#;
+    check_at(&with_geometry(geometry), 8, geometry);
+    let geometry = r#"{"type":"MultiPoint","lod":"1"}"#;
+    check_at(&with_geometry(geometry), 8, geometry);
+}
+
+#[test]
+fn object_counts() {
+    let objects = |count: usize| {
+        let list: Vec<String> = (0..count)
+            .map(|number| format!(r#""o{number}":{{"type":"Road"}}"#))
+            .collect();
+        town(&list.join(","), "")
+    };
+    check(&objects(1_024), accepted(1_024));
+    check_at(&objects(1_025), 9, "\"o1024\"");
+    check_at(&objects(1_030), 9, "\"o1024\"");
+}
+
+#[test]
+fn lods() {
+    let lod = |word: &str| {
+        with_geometry(&format!(
+            r#"{{"type":"MultiPoint","lod":"{word}","boundaries":[0]}}"#
+        ))
+    };
+    for word in ["0", "9", "0.0", "2.1", "9.9"] {
+        check(&lod(word), accepted(1));
+    }
+    for word in [
+        "",
+        "2.",
+        ".2",
+        "12",
+        "2.10",
+        "2,1",
+        "\u{ff12}",
+        "\u{ff12}.1",
+        "a",
+    ] {
+        check_at(&lod(word), 10, &format!("\"{word}\","));
+    }
+}
+
+#[test]
+fn vertices() {
+    for wrong in [
+        "7",
+        "[0,0]",
+        "[0,0,0,0]",
+        "[0,0,1.0]",
+        "[0,0,1e0]",
+        "[0,0,null]",
+        "[]",
+    ] {
+        check_at_last(&town("", wrong), 12, wrong);
+    }
+    check(&town("", "[-0,2147483647,-2147483648]"), accepted(0));
+    check_at(&town("", "[0,2147483648,0]"), 13, "2147483648");
+    check_at(&town("", "[0,0,-2147483649]"), 13, "-2147483649");
+    let long = format!("1{}", "0".repeat(200));
+    check_at(&town("", &format!("[0,0,{long}]")), 13, &long);
+}
+
+#[test]
+fn transforms() {
+    check_at(&MINIMAL.replace("[1.0,1.0,1.0]", "[1,1]"), 12, "[1,1]");
+    check_at(
+        &MINIMAL.replace("[1.0,1.0,1.0]", "[1,1,1,1]"),
+        12,
+        "[1,1,1,1]",
+    );
+    check_at(&MINIMAL.replace("[1.0,1.0,1.0]", "[1,1,\"1\"]"), 7, "\"1\"");
+    check_at(&MINIMAL.replace("[1.0,1.0,1.0]", "[1,1,1,null]"), 7, "null");
+    for kept in [
+        "0e999999999999",
+        "10e-23",
+        "1000000000000000",
+        "999999999999999e22",
+        "-0.0",
+    ] {
+        check(&with_scale(kept), accepted(0));
+    }
+    for wrong in [
+        "1e23",
+        "1e-23",
+        "1000000000000001",
+        "1e99999999999999999999999",
+    ] {
+        check_at(&with_scale(wrong), 13, wrong);
+    }
+}
+
+#[test]
+fn pairs() {
+    let pair = |numeral: &str| decimal::pair(numeral).map(|Pair { m, e }| (m, e));
+    assert_eq!(pair("0"), Some((0, 0)));
+    assert_eq!(
+        pair("-0.000e-999999999999999999999999999999999999"),
+        Some((0, 0))
+    );
+    assert_eq!(pair("10e-23"), Some((1, -22)));
+    assert_eq!(pair("1e23"), None);
+    assert_eq!(pair("10e22"), None);
+    assert_eq!(pair("1e22"), Some((1, 22)));
+    assert_eq!(pair("1000000000000000"), Some((1, 15)));
+    assert_eq!(
+        pair("-999999999999999E-22"),
+        Some((-999_999_999_999_999, -22))
+    );
+    assert_eq!(pair("9999999999999990e-1"), Some((999_999_999_999_999, 0)));
+    assert_eq!(pair("1000000000000001"), None);
+    assert_eq!(pair("0.0010"), Some((1, -3)));
+    assert_eq!(pair("12.50E+0003"), Some((125, 2)));
+    let zeros = "0".repeat(60_000);
+    assert_eq!(pair(&format!("1{zeros}e-60000")), Some((1, 0)));
+    assert_eq!(pair(&format!("0.{zeros}1e60001")), Some((1, 0)));
+    assert_eq!(pair(&format!("1{zeros}e-60023")), None);
+    assert_eq!(
+        pair(&format!("0.{zeros}1e99999999999999999999999999")),
+        None
+    );
+    assert_eq!(pair(&format!("7e{zeros}1")), Some((7, 1)));
+}
+
+#[test]
+fn boundaries() {
+    let geometry = |word: &str, boundary: &str| with_geometry(&shape(word, boundary));
+    let deep = [
+        "[]",
+        "[0]",
+        "[[0]]",
+        "[[[0]]]",
+        "[[[[0]]]]",
+        "[[[[[0]]]]]",
+        "[[[[[[0]]]]]]",
+    ];
+    let depths = [
+        ("MultiPoint", 1),
+        ("MultiLineString", 2),
+        ("MultiSurface", 3),
+        ("CompositeSurface", 3),
+        ("Solid", 4),
+        ("MultiSolid", 5),
+        ("CompositeSolid", 5),
+    ];
+    for (word, depth) in depths {
+        check(&geometry(word, "[]"), accepted(1));
+        check(&geometry(word, deep[depth]), accepted(1));
+        let start = geometry(word, "#").find('#').unwrap();
+        // The element that stands where an integer is wanted, or the reverse.
+        check(&geometry(word, deep[depth + 1]), refused(12, start + depth));
+        if depth > 1 {
+            check(
+                &geometry(word, deep[depth - 1]),
+                refused(12, start + depth - 1),
+            );
+        }
+    }
+    check_at(&geometry("MultiPoint", "[-0,7.0]"), 12, "7.0");
+    check_at(&geometry("MultiPoint", "[0,-7]"), 13, "-7");
+    check_at(&geometry("MultiPoint", "[0,77]"), 13, "77");
+    check_at(&geometry("MultiPoint", "[0,4294967296]"), 13, "4294967296");
+    check(&geometry("MultiPoint", "[-0]"), accepted(1));
+    check_at(&geometry("MultiPoint", "[1]"), 13, "1]}]}}");
+}
+
+#[test]
+fn semantic_values() {
+    let geometry = |boundary: &str, values: &str| {
+        with_geometry(&shape_with_semantics(
+            "Solid",
+            boundary,
+            r#"[{"type":"Door"}]"#,
+            values,
+        ))
+    };
+    let two_shells = "[[[[0]],[[0]]],[[[0]]]]";
+    check(&geometry(two_shells, "[[0,null],[-0]]"), accepted(1));
+    check_at(&geometry(two_shells, "[[0,null]]"), 12, "[[0,null]]");
+    check_at(
+        &geometry(two_shells, "[[0,null],[-0,null]]"),
+        12,
+        "[-0,null]",
+    );
+    check_at(&geometry(two_shells, "[[ 0],[0,0]]"), 12, "[ 0]");
+    check_at(&geometry(two_shells, "[[0,null],null]"), 12, "null]}");
+    check_at(&geometry(two_shells, "[[0,null],[0.0]]"), 12, "0.0]]}");
+    check_at(&geometry(two_shells, "[[0,null],[[0]]]"), 12, "[0]]]}");
+    check_at(&geometry(two_shells, "[[0,-1],[0]]"), 13, "-1");
+    check_at(&geometry(two_shells, "[[0,1],[0]]"), 13, "1],[0]]}");
+    check_at(
+        &geometry(two_shells, "[[0,4294967295],[0]]"),
+        13,
+        "4294967295",
+    );
+    // Over a boundary that is not well shaped, the values are not judged.
+    check_at(&geometry("[[[[0]],[[0.5]]]]", "[ 1]"), 12, "0.5");
+    let point = |boundary: &str| {
+        let start = r#"{"semantics":{"values":[7,7],"surfaces":[]},"#;
+        with_geometry(&shape("MultiPoint", boundary).replacen('{', start, 1))
+    };
+    check_at(&point("[null]"), 12, "null");
+    check_at(&point("[0]"), 12, "[7,7]");
+}
+
+#[test]
+fn permissions() {
+    let everything = [1, 2, 3, 4, 5, 6, 7];
+    let permitted = |word: &str| -> Vec<usize> {
+        match word {
+            "Bridge" | "BridgePart" | "Tunnel" | "TunnelPart" | "Building" | "BuildingPart"
+            | "BuildingStorey" | "BuildingRoom" | "BuildingUnit" => vec![3, 4, 5, 7],
+            "GenericCityObject" => vec![1, 2, 3, 4, 5, 7],
+            "LandUse" => vec![3, 4],
+            "PlantCover" => vec![3, 4, 5, 6, 7],
+            "TINRelief" => vec![4],
+            "WaterBody" => vec![2, 3, 4, 5, 7],
+            _ => everything.to_vec(),
+        }
+    };
+    let geometries = concat!(
+        "MultiPoint MultiLineString MultiSurface CompositeSurface Solid MultiSolid ",
+        "CompositeSolid"
+    );
+    let objects = concat!(
+        "Bridge Building CityFurniture CityObjectGroup GenericCityObject LandUse ",
+        "OtherConstruction PlantCover Railway Road SolitaryVegetationObject TINRelief ",
+        "TransportSquare Tunnel WaterBody Waterway BridgePart BridgeInstallation ",
+        "BridgeConstructiveElement BridgeRoom BridgeFurniture BuildingPart ",
+        "BuildingInstallation BuildingConstructiveElement BuildingFurniture BuildingStorey ",
+        "BuildingRoom BuildingUnit TunnelPart TunnelInstallation TunnelConstructiveElement ",
+        "TunnelHollowSpace TunnelFurniture"
+    );
+    for (index, object) in objects.split(' ').enumerate() {
+        for (code, geometry) in (1..).zip(geometries.split(' ')) {
+            let parent = r#""p":{"type":"Road","children":["a"]}"#;
+            let start = format!(r#""a":{{"type":"{object}","parents":["p"]"#);
+            let shape = shape(geometry, "[]");
+            let text = town(&format!(r#"{parent},{start},"geometry":[{shape}]}}"#), "");
+            if permitted(object).contains(&code) {
+                check(&text, accepted(2));
+                let (_, bytes) = lay(text.as_bytes(), 1_000);
+                // After kinds 1, 2, the first object with one child: 66 + 6 + 9 + 10 + 6.
+                let record = &bytes[97..106];
+                assert_eq!(record, [3, 0, 0, 0, 3, 0, index as u8 + 1, 0, b'a']);
+            } else {
+                check_at(&text, 14, &format!("\"{geometry}\""));
+            }
+        }
+    }
+}
+
+#[test]
+fn links() {
+    let two = |a: &str, b: &str| town(&format!(r#""a":{{{a}}},"b":{{{b}}}"#), "");
+    let road = r#""type":"Road""#;
+    let check_links = |a: &str, b: &str, expected: Option<(u8, &str)>| {
+        let text = two(a, b);
+        match expected {
+            None => check(&text, accepted(2)),
+            Some((rule, part)) => check_at(&text, rule, part),
+        }
+    };
+    check_links(
+        r#""type":"Road","children":["b"]"#,
+        r#""type":"Road","parents":["a"]"#,
+        None,
+    );
+    check_links(
+        r#""type":"Road","children":["x"]"#,
+        road,
+        Some((15, "\"x\"")),
+    );
+    check_links(
+        r#""type":"Road","parents":["x"]"#,
+        road,
+        Some((15, "\"x\"")),
+    );
+    check_links(
+        r#""type":"Road","children":["b", "\u0062"]"#,
+        r#""type":"Road","parents":["a"]"#,
+        Some((15, r#""\u0062""#)),
+    );
+    check_links(
+        r#""type":"Road","children":["b","b" ]"#,
+        r#""type":"Road","parents":["a"]"#,
+        Some((15, r#""b" ]"#)),
+    );
+    check_links(
+        r#""type":"Road","children":["b"]"#,
+        road,
+        Some((17, r#""b"]"#)),
+    );
+    check_links(
+        r#""type":"Road","parents":["b"]"#,
+        road,
+        Some((17, r#""b"]"#)),
+    );
+    check_links(r#""type":"CityObjectGroup","children":["b"]"#, road, None);
+    check_links(
+        r#""type":"CityObjectGroup","parents":["b"]"#,
+        road,
+        Some((17, r#""b"]"#)),
+    );
+    check_links(
+        r#""type":"Road","children":["b"]"#,
+        r#""type":"CityObjectGroup""#,
+        Some((17, r#""b"]"#)),
+    );
+    check_links(
+        r#""type":"CityObjectGroup""#,
+        r#""type":"Road","parents":["a"]"#,
+        Some((17, r#""a"]"#)),
+    );
+    check_links(
+        r#""type":"Road","parents":["a"],"children":["a"]"#,
+        road,
+        None,
+    );
+    check_links(
+        r#""type":"Road","parents":["a"]"#,
+        road,
+        Some((17, r#""a"]"#)),
+    );
+    let part = r#""type":"BuildingPart""#;
+    check_links(part, road, Some((16, r#"{"type":"BuildingPart""#)));
+    let empty = r#""type":"BuildingPart","parents":[],"children":["b"]"#;
+    check_links(empty, road, Some((16, r#"{"type":"BuildingPart""#)));
+    check_links(
+        r#""type":"CityObjectGroup","children":["b"]"#,
+        part,
+        Some((16, r#"{"type":"BuildingPart""#)),
+    );
+    check_links(r#""type":"Road","children":[7]"#, road, Some((7, "7")));
+}
+
+#[test]
+fn absent_and_empty_lists_are_the_same_model() {
+    let absent = town(r#""a":{"type":"Road"}"#, "");
+    let empty = town(
+        r#""a":{"type":"Road","children":[],"parents":[],"geometry":[]}"#,
+        "",
+    );
+    assert_eq!(lay(absent.as_bytes(), 200), lay(empty.as_bytes(), 200));
+    let geometry = shape("MultiPoint", "[]");
+    let with_semantics = shape_with_semantics("MultiPoint", "[]", "[]", "[]");
+    let without = lay(with_geometry(&geometry).as_bytes(), 500).1;
+    let with = lay(with_geometry(&with_semantics).as_bytes(), 500).1;
+    assert_ne!(without, with);
+}
+
+#[test]
+fn nesting_is_laid() {
+    let surface = |boundary: &str| {
+        let geometry = shape("MultiSurface", boundary);
+        lay(with_geometry(&geometry).as_bytes(), 500).1
+    };
+    assert_ne!(surface("[[[0,0],[0]]]"), surface("[[[0],[0,0]]]"));
+}
+
+#[test]
+fn rooms() {
+    let text = with_geometry(&shape("MultiPoint", "[0]"));
+    let length = 129;
+    let (verdict, sheet) = lay(text.as_bytes(), length);
+    assert_eq!(verdict, Verdict::Accepted { length, objects: 1 });
+    for room in 0..length {
+        assert_eq!(lay(text.as_bytes(), room), (refused(18, 0), vec![0; room]));
+    }
+    for room in length..length + 10 {
+        let mut expected = sheet.clone();
+        expected.resize(room, 0);
+        assert_eq!(lay(text.as_bytes(), room), (verdict, expected));
+    }
+    assert_eq!(lay(b"{}", 5), (refused(8, 0), vec![0; 5]));
+    assert_eq!(lay(b"{}", 0), (refused(8, 0), vec![]));
+}
+
+/// What may follow a prefix of a short JSON text: the rest of a token, the rest of a
+/// member, and closing brackets.
+fn completions() -> Vec<String> {
+    let tokens = [
+        "", "0", "\"", "\\\"", "n\"", "u0000\"", "0000\"", "000\"", "00\"", "0\"", "rue", "ue",
+        "e", "alse", "lse", "se", "ull", "ll", "l", "\"\"",
+    ];
+    let mut closers = vec![String::new()];
+    for length in 0..3 {
+        let longer: Vec<String> = closers
+            .iter()
+            .filter(|closer| closer.len() == length)
+            .flat_map(|closer| [format!("{closer}]"), format!("{closer}}}")])
+            .collect();
+        closers.extend(longer);
+    }
+    let mut list = Vec::new();
+    for token in tokens {
+        for member in ["", ":0"] {
+            for closer in &closers {
+                list.push(format!("{token}{member}{closer}"));
+            }
+        }
+    }
+    list
+}
+
+/// Rules 3 and 4 by their definition, from what whole texts are JSON.
+#[test]
+fn short_texts_by_definition() {
+    let alphabet = b"{}[]\":,\\0-.eu1 t\x01";
+    let completions = completions();
+    let texts = generate::short_texts(alphabet, 3);
+    let mut begins_json = BTreeMap::new();
+    for text in &texts {
+        for levels in [1, 8] {
+            let begins = completions.iter().any(|end| {
+                let whole = [text.as_slice(), end.as_bytes()].concat();
+                json::read_levels(&whole, levels).is_ok()
+            });
+            begins_json.insert((text.clone(), levels), begins);
+        }
+    }
+    for text in &texts {
+        let begins = |length: usize, levels| begins_json[&(text[..length].to_vec(), levels)];
+        // At one level, a prefix that opens more has no completion within the level.
+        let longest = (0..=text.len()).rev().find(|n| begins(*n, 1)).unwrap();
+        let answer = json::read_levels(text, 1).map(drop);
+        let expected = if longest < text.len() {
+            let rule = if begins(longest + 1, 8) { 4 } else { 3 };
+            Err(Refusal {
+                rule,
+                place: longest,
+            })
+        } else if answer.is_ok() {
+            Ok(())
+        } else {
+            Err(Refusal {
+                rule: 3,
+                place: longest,
+            })
+        };
+        assert_eq!(answer, expected, "{:?}", String::from_utf8_lossy(text));
+    }
+    println!("{} texts", texts.len());
+}
+
+#[test]
+fn generated_texts_answer_as_expected() {
+    println!("seed {SEED}");
+    let mut counts = BTreeMap::new();
+    for seed in SEED..SEED + 6_000 {
+        let case = generate::case(seed);
+        let found = read(&case.text);
+        let rule = found.as_ref().err().map_or(0, |refusal| refusal.rule);
+        *counts.entry(rule).or_insert(0) += 1;
+        let text = String::from_utf8_lossy(&case.text);
+        match case.expected {
+            Expected::Model(model) => assert_eq!(found, Ok(model), "seed {seed}: {text}"),
+            Expected::Refusal(refusal) => {
+                assert_eq!(found.err(), Some(refusal), "seed {seed}: {text}")
+            }
+            Expected::Open => {}
+        }
+    }
+    println!("answers by rule, 0 for acceptance: {counts:?}");
+    for rule in 0..=17 {
+        assert!(
+            counts.get(&rule).is_some_and(|count| *count >= 50),
+            "rule {rule}"
+        );
+    }
+}
+
+#[test]
+fn a_sheet_gives_its_model_back() {
+    let mut random = Random::new(SEED);
+    for _ in 0..2_000 {
+        let model = generate::model(&mut random);
+        let text = generate::write_plain(&model, &mut random);
+        assert_eq!(read(&text).as_ref(), Ok(&model));
+        assert_eq!(sheet::decode(&sheet::encode(&model)), Ok(model));
+    }
+}
+
+#[test]
+fn alike_texts_give_the_same_bytes() {
+    let mut random = Random::new(SEED);
+    for _ in 0..1_000 {
+        let model = generate::model(&mut random);
+        let one = lay(&generate::write_plain(&model, &mut random), 200_000);
+        assert!(matches!(one.0, Verdict::Accepted { .. }));
+        let other = lay(&generate::write(&model, &mut random), 200_000);
+        if other.0.rule() != 1 {
+            assert_eq!(one, other);
+        }
+    }
+}
+
+#[test]
+fn a_changed_model_gives_other_bytes() {
+    let mut random = Random::new(SEED);
+    for _ in 0..2_000 {
+        let model = generate::model(&mut random);
+        let changed = generate::changed(&model, &mut random);
+        let one = sheet::encode(&model);
+        let other = sheet::encode(&changed);
+        assert!(!one.starts_with(&other) && !other.starts_with(&one));
+    }
+}
+
+#[test]
+fn the_json_suite() {
+    let files = published::json_suite();
+    let mut counts = [0; 2];
+    for file in &files {
+        let verdict = judge(&file.bytes);
+        if file.name.starts_with("y_") {
+            counts[0] += 1;
+            assert!(verdict.rule() >= 6, "{}: {verdict:?}", file.name);
+        } else if file.name.starts_with("n_") {
+            counts[1] += 1;
+            assert!(
+                (1..=4).contains(&verdict.rule()),
+                "{}: {verdict:?}",
+                file.name
+            );
+        }
+    }
+    println!("{counts:?} files that are JSON and that are not");
+    assert!(counts.iter().all(|count| *count > 90));
+}
+
+/// The answers for the files on which parsers may differ. Numbers of any size are JSON; an
+/// unpaired surrogate escape is rule 5, bytes that are no UTF-8 are rule 2, and a byte
+/// order mark begins no JSON text.
+#[test]
+fn the_json_suites_open_files() {
+    let table = [
+        ("i_number_double_huge_neg_exp", 7, 0),
+        ("i_number_huge_exp", 7, 0),
+        ("i_number_neg_int_huge_exp", 7, 0),
+        ("i_number_pos_double_huge_exp", 7, 0),
+        ("i_number_real_neg_overflow", 7, 0),
+        ("i_number_real_pos_overflow", 7, 0),
+        ("i_number_real_underflow", 7, 0),
+        ("i_number_too_big_neg_int", 7, 0),
+        ("i_number_too_big_pos_int", 7, 0),
+        ("i_number_very_big_negative_int", 7, 0),
+        ("i_object_key_lone_2nd_surrogate", 5, 2),
+        ("i_string_1st_surrogate_but_2nd_missing", 5, 2),
+        ("i_string_1st_valid_surrogate_2nd_invalid", 5, 2),
+        ("i_string_UTF-16LE_with_BOM", 2, 0),
+        ("i_string_UTF-8_invalid_sequence", 2, 7),
+        ("i_string_UTF8_surrogate_U+D800", 2, 2),
+        ("i_string_incomplete_surrogate_and_escape_valid", 5, 2),
+        ("i_string_incomplete_surrogate_pair", 5, 2),
+        ("i_string_incomplete_surrogates_escape_valid", 5, 2),
+        ("i_string_invalid_lonely_surrogate", 5, 2),
+        ("i_string_invalid_surrogate", 5, 2),
+        ("i_string_invalid_utf-8", 2, 2),
+        ("i_string_inverted_surrogates_U+1D11E", 5, 2),
+        ("i_string_iso_latin_1", 2, 2),
+        ("i_string_lone_second_surrogate", 5, 2),
+        ("i_string_lone_utf8_continuation_byte", 2, 2),
+        ("i_string_not_in_unicode_range", 2, 2),
+        ("i_string_overlong_sequence_2_bytes", 2, 2),
+        ("i_string_overlong_sequence_6_bytes", 2, 2),
+        ("i_string_overlong_sequence_6_bytes_null", 2, 2),
+        ("i_string_truncated-utf-8", 2, 2),
+        ("i_string_utf16BE_no_BOM", 2, 5),
+        ("i_string_utf16LE_no_BOM", 2, 4),
+        ("i_structure_500_nested_arrays", 4, 32),
+        ("i_structure_UTF-8_BOM_empty_object", 3, 0),
+    ];
+    let files = published::json_suite();
+    let open = files.iter().filter(|file| file.name.starts_with("i_"));
+    assert_eq!(open.count(), table.len());
+    for (name, rule, place) in table {
+        let file = files
+            .iter()
+            .find(|file| file.name == format!("{name}.json"));
+        let file = file.unwrap_or_else(|| panic!("no file {name}"));
+        assert_eq!(judge(&file.bytes), refused(rule, place), "{name}");
+    }
+}
+
+/// Kuhn's labelled lines: which of them are UTF-8 by RFC 3629.
+#[test]
+fn the_utf8_test() {
+    let lines = published::utf8_lines();
+    let whole = [
+        "2.1.1", "2.1.2", "2.1.3", "2.1.4", "2.2.1", "2.2.2", "2.2.3", "2.3.1", "2.3.2", "2.3.3",
+        "2.3.4", "5.3.1", "5.3.2", "5.3.3", "5.3.4",
+    ];
+    let mut counts = [0; 2];
+    for line in lines {
+        let quote = line.iter().position(|byte| *byte == b'"');
+        let (Some(quote), true) = (quote, line.first().is_some_and(u8::is_ascii_digit)) else {
+            continue;
+        };
+        let label = String::from_utf8_lossy(&line[..5]).into_owned();
+        if whole.contains(&label.as_str()) {
+            // The label's second point stops the number.
+            assert_eq!(judge(&line), refused(3, 3), "{label}");
+            counts[0] += 1;
+        } else {
+            // The damaged bytes are between the quotes.
+            let verdict = judge(&line);
+            assert_eq!(verdict, refused(2, quote + 1), "{label}");
+            counts[1] += 1;
+        }
+    }
+    println!("{counts:?} lines that are UTF-8 and that are not");
+    assert!(counts[0] >= 11 && counts[1] >= 30);
+}
+
+#[test]
+fn large_texts_answer_as_expected() {
+    for large in generate::large_texts() {
+        let verdict = judge(&large.text);
+        let length = large.text.len();
+        assert_eq!(
+            verdict.rule(),
+            large.rule,
+            "{}: {verdict:?}, {length} bytes",
+            large.label
+        );
+    }
+}
