@@ -34,7 +34,7 @@ refuse-fault-requires c κs =
     let six = (c .before .before .repeated .ensures) .is (s .value) (s .stands) in
     let schema = (c .before .root .ensures .0) .is (s .value) (s .stands) in
     let d = placed _ (s .value) (s .short) (s .reads) in
-    (from-five (s .value) five six schema d, (c .if1 .taken))
+    (from-five (s .value) five six schema d, (omega (arith, c .if1 .taken)))
 
 -- src/lib.rt:92:9
 returns : tie.Need-returns
@@ -44,7 +44,7 @@ returns c =
     let six = (c .before .before .before .repeated .ensures) .is (s .value) (s .stands) in
     let schema = (c .before .before .root .ensures .0) .is (s .value) (s .stands) in
     let d = placed _ (s .value) (s .short) (s .reads) in
-    judges s (c .refuse-fault .ensures ∙ sym (judged-fault (s .value) _ (before-links (s .value) five six schema d (c .before .if1 .taken)) (c .before .if1 .taken)))
+    judges s (c .refuse-fault .ensures ∙ sym (judged-fault (s .value) _ (before-links (s .value) five six schema d (omega (arith, c .before .if1 .taken))) (omega (arith, c .before .if1 .taken))))
 
 -- src/lib.rt:95:9
 links-requires : tie.Need-links-requires
@@ -54,7 +54,7 @@ links-requires c κs =
     let six = (c .before .before .before .repeated .ensures) .is (s .value) (s .stands) in
     let schema = (c .before .before .root .ensures .0) .is (s .value) (s .stands) in
     let d = placed _ (s .value) (s .short) (s .reads) in
-    let few = few-objects (s .value) (no-schema (s .value) five six schema d (c .before .if1 .left)) in
+    let few = few-objects (s .value) (no-schema (s .value) five six schema d (omega (arith, c .before .if1 .left))) in
     record { value = s .value; stands = s .stands; short = s .short; few = few; indexed = (c .before .before .root .ensures .1) .is }
 
 -- src/lib.rt:97:9
@@ -65,8 +65,8 @@ refuse-fault-requires-2 c κs =
     let six = (c .before .before .before .before .before .repeated .ensures) .is (s .value) (s .stands) in
     let schema = (c .before .before .before .before .root .ensures .0) .is (s .value) (s .stands) in
     let d = placed _ (s .value) (s .short) (s .reads) in
-    let few = few-objects (s .value) (no-schema (s .value) five six schema d (c .before .before .before .if1 .left)) in
-    (links-from-five (s .value) five six schema d ((c .before .links .ensures) .is (s .value) (s .stands) few), (c .if2 .taken))
+    let few = few-objects (s .value) (no-schema (s .value) five six schema d (omega (arith, c .before .before .before .if1 .left))) in
+    (links-from-five (s .value) five six schema d ((c .before .links .ensures) .is (s .value) (s .stands) few), (omega (arith, c .if2 .taken)))
 
 -- src/lib.rt:97:9
 returns-2 : tie.Need-returns-2
@@ -76,8 +76,8 @@ returns-2 c =
     let six = (c .before .before .before .before .before .before .repeated .ensures) .is (s .value) (s .stands) in
     let schema = (c .before .before .before .before .before .root .ensures .0) .is (s .value) (s .stands) in
     let d = placed _ (s .value) (s .short) (s .reads) in
-    let few = few-objects (s .value) (no-schema (s .value) five six schema d (c .before .before .before .before .if1 .left)) in
-    judges s (c .refuse-fault2 .ensures ∙ sym (judged-fault (s .value) _ (all-passes (s .value) five six schema ∙ sym ((c .before .before .links .ensures) .is (s .value) (s .stands) few)) (c .before .if2 .taken)))
+    let few = few-objects (s .value) (no-schema (s .value) five six schema d (omega (arith, c .before .before .before .before .if1 .left))) in
+    judges s (c .refuse-fault2 .ensures ∙ sym (judged-fault (s .value) _ (all-passes (s .value) five six schema ∙ sym ((c .before .before .links .ensures) .is (s .value) (s .stands) few)) (omega (arith, c .before .if2 .taken))))
 
 -- src/lib.rt:83:1
 returns-3 : tie.Need-returns-3
@@ -88,9 +88,9 @@ returns-3 c =
     let six = (c .before .before .before .before .before .repeated .ensures) .is (s .value) (s .stands) in
     let schema = (c .before .before .before .before .root .ensures .0) .is (s .value) (s .stands) in
     let d = placed _ (s .value) (s .short) (s .reads) in
-    let few = few-objects (s .value) (no-schema (s .value) five six schema d (c .before .before .before .if1 .left)) in
+    let few = few-objects (s .value) (no-schema (s .value) five six schema d (omega (arith, c .before .before .before .if1 .left))) in
     let counted = (c .before .before .before .before .root .ensures .1) .is (s .value) (s .stands) .count in
-    judges s (ap accepted (omega arith) ∙ sym (judged-none (s .value) _ (all-passes (s .value) five six schema ∙ sym ((c .before .links .ensures) .is (s .value) (s .stands) few)) (c .if2 .left)))
+    judges s (ap accepted (omega arith) ∙ sym (judged-none (s .value) _ (all-passes (s .value) five six schema ∙ sym ((c .before .links .ensures) .is (s .value) (s .stands) few)) (omega (arith, c .if2 .left))))
 
 pub judge-table-spec : {M : Type 1} → statement M
 judge-table-spec =
