@@ -10,8 +10,6 @@ use mathlib.Core.Option.{Option, some}
 use mathlib.Core.Option as option
 use lib.ListN.{length, drop}
 use Rattle.json.specs.Tree.{Json}
-use Rattle.json.specs.Machine.{read, reads}
-use Rattle.grammar.specs.Theorems.{read-text, ordered}
 use Rattle.nodes.specs.Access.{members, Member, find}
 use Rattle.nodes.specs.Everywhere.{rule5, rule6}
 use Rattle.nodes.specs.Faults.{fault, least, none, ruleOf, placeIn}
@@ -24,6 +22,7 @@ use Rattle.model.specs.Code.{All}
 use Rattle.verdict.specs.Verdict.{Verdict, accepted, refused, faults, given, judged}
 use Rattle.kebrawish.specs.Answers.{Stands, Judges}
 use borrow.Author.Tests.{lt-ltb, le-ltb}
+use Rattle.verdict.specs.Exact.{least-best}
 use Rattle.verdict.specs.Places.{Among, Placed, root-safe, links-safe, five-among, six-among}
 
 -- ---- the least of a list
@@ -50,16 +49,11 @@ unfolding least
 least-from lo b [] h a = h
 least-from lo b (f ∷ fs) h a = least-from lo (min b f) fs (omega (arith, a .0)) (a .1)
 
-least-most : (b : ℕ) (fs : List ℕ) → least b fs ≤ b
-unfolding least
-least-most b [] = omega arith
-least-most b (f ∷ fs) = omega (arith, least-most (min b f) fs)
-
 -- no faults, where the least is no fault of the list
 nothing : (b hi : ℕ) (fs : List ℕ) → All (λ f. f < hi) fs → hi ≤ least b fs → fs ≡ []
 unfolding least
 nothing b hi [] a h = refl
-nothing b hi (f ∷ fs) a h = absurd (omega (arith, a .0, least-most (min b f) fs))
+nothing b hi (f ∷ fs) a h = absurd (omega (arith, a .0, least-best (min b f) fs))
 
 from-low : (lo hi : ℕ) (fs : List ℕ) → All (Among lo hi) fs → (c : ℕ) → c ≤ lo * 65536 → All (λ f. c ≤ f) fs
 from-low lo hi [] a c h = tt
@@ -70,10 +64,6 @@ to-high lo hi top [] a h = tt
 to-high lo hi top (f ∷ fs) a h = (omega (arith, a .0 .1), to-high lo hi top fs (a .1) h)
 
 -- ---- a tree
-
--- the tree of a text that is short enough
-pub placed : (x : List ℕ) (v : Json) → length x ≤ 65535 → read x ≡ reads v → Placed v
-placed x v h e = let (p, q, s, k) = ordered 32 x v (read-text x v .0 e) in record { from = p; to = q; spans = s; before = omega arith }
 
 -- the passes one after the other
 module _ (v : Json) {a b c : ℕ} (p : a ≡ least none (map (fault 5) (rule5 v))) (q : b ≡ least a (map (fault 6) (rule6 v))) (r : c ≡ least b (cityJson v)) where

@@ -34,7 +34,7 @@ NoLater r p s q = (r < s) ⊎ ((r ≡ s) × (p ≤ q))
 
 -- ---- the least of a list
 
-least-best : (b : ℕ) (fs : List ℕ) → least b fs ≤ b
+pub least-best : (b : ℕ) (fs : List ℕ) → least b fs ≤ b
 unfolding least
 least-best b [] = omega arith
 least-best b (f ∷ fs) = omega (arith, least-best (min b f) fs)
@@ -71,7 +71,7 @@ verdict-read x h k = rw (le-ltb 65535 (length x) h, le-ltb (wholeLength x) (leng
 -- ---- rules 5 to 17
 
 -- the tree of a text that is not too long stands in the first bytes
-in-text : (x : List ℕ) (v : Json) → length x ≤ 65535 → read x ≡ reads v → Placed v
+pub in-text : (x : List ℕ) (v : Json) → length x ≤ 65535 → read x ≡ reads v → Placed v
 in-text x v h e = let (p, q, s, k) = ordered 32 x v (read-text x v .0 e) in record { from = p; to = q; spans = s; before = omega arith }
 
 one-of : {f : ℕ} {fs : List ℕ} → List·Memᴰ f fs → All Small fs → Small f

@@ -2,7 +2,8 @@ use mathlib.Core.Path.{sym, ap, _∙_}
 use native.Mathlib.Omega.{arith}
 use Rattle.kebrawish.specs.Answers.{told}
 use Rattle.verdict.specs.Verdict.{accepted}
-use Rattle.kebrawish.proofs.Least.{placed, all-passes, before-links, no-schema, from-five, links-from-five, judged-fault, judged-none, judges, few-objects}
+use Rattle.verdict.specs.Exact.{in-text}
+use Rattle.kebrawish.proofs.Least.{all-passes, before-links, no-schema, from-five, links-from-five, judged-fault, judged-none, judges, few-objects}
 use borrow.Author.Needs.{needs}
 use Rattle.kebrawish.proofs.judge_table.Statement.{statement}
 use Rattle.kebrawish.proofs.judge_table.Tie as tie
@@ -33,7 +34,7 @@ refuse-fault-requires c κs =
     let five = (c .before .before .before .unpaired .ensures) .is (s .value) (s .stands) in
     let six = (c .before .before .repeated .ensures) .is (s .value) (s .stands) in
     let schema = (c .before .root .ensures .0) .is (s .value) (s .stands) in
-    let d = placed _ (s .value) (s .short) (s .reads) in
+    let d = in-text _ (s .value) (s .short) (s .reads) in
     (from-five (s .value) five six schema d, (omega (arith, c .if1 .taken)))
 
 -- src/lib.rt:92:9
@@ -43,7 +44,7 @@ returns c =
     let five = (c .before .before .before .before .unpaired .ensures) .is (s .value) (s .stands) in
     let six = (c .before .before .before .repeated .ensures) .is (s .value) (s .stands) in
     let schema = (c .before .before .root .ensures .0) .is (s .value) (s .stands) in
-    let d = placed _ (s .value) (s .short) (s .reads) in
+    let d = in-text _ (s .value) (s .short) (s .reads) in
     judges s (c .refuse-fault .ensures ∙ sym (judged-fault (s .value) _ (before-links (s .value) five six schema d (omega (arith, c .before .if1 .taken))) (omega (arith, c .before .if1 .taken))))
 
 -- src/lib.rt:95:9
@@ -53,7 +54,7 @@ links-requires c κs =
     let five = (c .before .before .before .before .unpaired .ensures) .is (s .value) (s .stands) in
     let six = (c .before .before .before .repeated .ensures) .is (s .value) (s .stands) in
     let schema = (c .before .before .root .ensures .0) .is (s .value) (s .stands) in
-    let d = placed _ (s .value) (s .short) (s .reads) in
+    let d = in-text _ (s .value) (s .short) (s .reads) in
     let few = few-objects (s .value) (no-schema (s .value) five six schema d (omega (arith, c .before .if1 .left))) in
     record { value = s .value; stands = s .stands; short = s .short; few = few; indexed = (c .before .before .root .ensures .1) .is }
 
@@ -64,7 +65,7 @@ refuse-fault-requires-2 c κs =
     let five = (c .before .before .before .before .before .before .unpaired .ensures) .is (s .value) (s .stands) in
     let six = (c .before .before .before .before .before .repeated .ensures) .is (s .value) (s .stands) in
     let schema = (c .before .before .before .before .root .ensures .0) .is (s .value) (s .stands) in
-    let d = placed _ (s .value) (s .short) (s .reads) in
+    let d = in-text _ (s .value) (s .short) (s .reads) in
     let few = few-objects (s .value) (no-schema (s .value) five six schema d (omega (arith, c .before .before .before .if1 .left))) in
     (links-from-five (s .value) five six schema d ((c .before .links .ensures) .is (s .value) (s .stands) few), (omega (arith, c .if2 .taken)))
 
@@ -75,7 +76,7 @@ returns-2 c =
     let five = (c .before .before .before .before .before .before .before .unpaired .ensures) .is (s .value) (s .stands) in
     let six = (c .before .before .before .before .before .before .repeated .ensures) .is (s .value) (s .stands) in
     let schema = (c .before .before .before .before .before .root .ensures .0) .is (s .value) (s .stands) in
-    let d = placed _ (s .value) (s .short) (s .reads) in
+    let d = in-text _ (s .value) (s .short) (s .reads) in
     let few = few-objects (s .value) (no-schema (s .value) five six schema d (omega (arith, c .before .before .before .before .if1 .left))) in
     judges s (c .refuse-fault2 .ensures ∙ sym (judged-fault (s .value) _ (all-passes (s .value) five six schema ∙ sym ((c .before .before .links .ensures) .is (s .value) (s .stands) few)) (omega (arith, c .before .if2 .taken))))
 
@@ -87,7 +88,7 @@ returns-3 c =
     let five = (c .before .before .before .before .before .before .unpaired .ensures) .is (s .value) (s .stands) in
     let six = (c .before .before .before .before .before .repeated .ensures) .is (s .value) (s .stands) in
     let schema = (c .before .before .before .before .root .ensures .0) .is (s .value) (s .stands) in
-    let d = placed _ (s .value) (s .short) (s .reads) in
+    let d = in-text _ (s .value) (s .short) (s .reads) in
     let few = few-objects (s .value) (no-schema (s .value) five six schema d (omega (arith, c .before .before .before .if1 .left))) in
     let counted = (c .before .before .before .before .root .ensures .1) .is (s .value) (s .stands) .count in
     judges s (ap accepted (omega arith) ∙ sym (judged-none (s .value) _ (all-passes (s .value) five six schema ∙ sym ((c .before .links .ensures) .is (s .value) (s .stands) few)) (omega (arith, c .if2 .left))))
