@@ -2,18 +2,12 @@
 use Prim.Native.Nat.{ℕ, _≤_, _<_}
 use native.Mathlib.Omega.{arith}
 use native.Mathlib.Decide.{decLt}
-use mathlib.Core.Path.{_≡_, refl, sym, ap, _∙_}
-use mathlib.Core.List.{List, [], _++_, map}
+use mathlib.Core.Path.{_≡_, sym, ap, _∙_}
+use mathlib.Core.List.{List}
 use mathlib.Core.Logic.{inl, inr}
 use lib.ListN.{length}
-use Rattle.utf8.specs.Utf8.{wholeLength}
-use Rattle.json.specs.Machine.{read}
 use Rattle.grammar.specs.Theorems.{stops}
-use Rattle.nodes.specs.Everywhere.{rule5, rule6}
-use Rattle.nodes.specs.Faults.{fault}
-use Rattle.schema.specs.Schema.{cityJson}
-use Rattle.links.specs.Links.{linkFaults}
-use Rattle.verdict.specs.Verdict.{Verdict, accepted, refused, faults, verdict}
+use Rattle.verdict.specs.Verdict.{accepted, refused, verdict}
 use Rattle.verdict.specs.Exact.{Breaks, too-long, not-utf8, not-json, too-deep, in-tree, refused-least, accepted-clean, verdict-long}
 use Rattle.kebrawish.specs.declared.Broken.{Broken}
 use Rattle.kebrawish.specs.declared.Broken.the-variants as broken
@@ -21,7 +15,7 @@ use Rattle.kebrawish.specs.declared.Refusal.{Refusal}
 use Rattle.kebrawish.specs.declared.Verdict.{Verdict as Answer}
 use Rattle.kebrawish.specs.declared.Verdict.the-variants.{Accepted, Refused}
 use Rattle.kebrawish.specs.Answers.{numberOf, told}
-use Rattle.kebrawish.proofs.Least.{few-objects, nil-left, nil-right}
+use Rattle.kebrawish.proofs.Least.{few-clean}
 
 inside : (x : List ℕ) → length x ≤ 65535 → {r p : ℕ} → Breaks x r p → p ≤ 65535
 inside x h (too-long k) = omega arith
@@ -40,12 +34,7 @@ place-small x r p e = by (decLt 65535 (length x))
 
 -- there are at most 1,024 city objects
 pub count-small : (x : List ℕ) (n : ℕ) → verdict x ≡ accepted n → n ≤ 1024
-unfolding faults
-count-small x n e =
-    let c = accepted-clean x n e in
-    let v = c .value in
-    let z : cityJson v ≡ [] = nil-right (map (fault 5) (rule5 v) ++ map (fault 6) (rule6 v)) (cityJson v) (nil-left _ (linkFaults v) (c .clean)) in
-    omega (arith, few-objects v z, c .count)
+count-small x n e = let c = accepted-clean x n e in omega (arith, few-clean (c .value) (c .clean), c .count)
 
 pub number-small : (r : Broken) → numberOf r < 256
 unfolding numberOf

@@ -1,4 +1,4 @@
 -- What the proofs of several functions use.
 mod Least
-mod Parse
+mod Rules
 mod Bounds

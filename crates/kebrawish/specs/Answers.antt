@@ -6,9 +6,18 @@ use lib.ListN.{length}
 use Rattle.json.specs.Tree.{Json}
 use Rattle.json.specs.Machine.{read, reads}
 use Rattle.json.specs.Table.{Sub, size}
+use Rattle.nodes.specs.Faults.{least, none}
+use Rattle.fields.specs.Fields.{objectsOf}
+use Rattle.fields.specs.Says.{Indexed}
+use Rattle.schema.specs.declared.Walked.{Walked}
 use Rattle.verdict.specs.Verdict as verdict
 use Rattle.kebrawish.specs.declared.Broken.{Broken}
 use Rattle.kebrawish.specs.declared.Broken.the-variants as broken
+use Rattle.kebrawish.specs.declared.Refusal.{Refusal}
+use Rattle.kebrawish.specs.declared.Screened.{Screened}
+use Rattle.kebrawish.specs.declared.Screened.the-variants as screened
+use Rattle.kebrawish.specs.declared.Opened.{Opened}
+use Rattle.kebrawish.specs.declared.Opened.the-variants as opened
 use Rattle.kebrawish.specs.declared.Verdict.{Verdict}
 use Rattle.kebrawish.specs.declared.Verdict.the-variants.{Accepted, Refused}
 
@@ -33,11 +42,14 @@ numberOf broken.NoParent = 16
 numberOf broken.OneSidedLink = 17
 numberOf broken.NoRoom = 18
 
--- an answer as the verdict that it is
+-- a refusal, and an answer, as the verdict that it is
+abbrev pub refusal : Refusal → verdict.Verdict
+refusal f = verdict.refused (numberOf (f .rule)) (f .place)
+
 unfoldable pub told : Verdict → verdict.Verdict
 unfolding numberOf
 told (Accepted n) = verdict.accepted n
-told (Refused r) = verdict.refused (numberOf (r .rule)) (r .place)
+told (Refused f) = refusal f
 
 -- an answer in one word: bits 56 to 63 the rule's number, 0 for acceptance; bits 0 to 31 the place of a refusal; bits 32 to 55 the object count
 unfoldable pub word : verdict.Verdict → ℕ
@@ -52,6 +64,18 @@ pub record Stands (x t : List ℕ) (n : ℕ) : Type 0 where
   pub stands : Sub x t 0 value
   pub ends : size value ≡ n
 
--- r is the verdict of the tree that the text x is read as
-pub record Judges (x : List ℕ) (r : verdict.Verdict) : Type 0 where
-  pub is : (v : Json) → read x ≡ reads v → r ≡ verdict.judged v
+-- rules 1 and 2 were kept, or the text x is refused
+unfoldable pub Screens : List ℕ → Screened → Type 0
+Screens x screened.Passed = (length x ≤ 65535) × (verdict.verdict x ≡ verdict.parsed (read x))
+Screens x (screened.Refused f) = verdict.verdict x ≡ refusal f
+
+-- the first n words of the table t are those of the text's tree, or the text x is refused by rule 3 or 4
+unfoldable pub Opens : List ℕ → List ℕ → Opened → Type 0
+Opens x t (opened.Tree n) = Stands x t n
+Opens x t (opened.Refused f) = verdict.parsed (read x) ≡ refusal f
+
+-- the least fault of the rules 5 to 17 of the tree that the text x is read as, and the index over the table t of its city objects
+pub record Examined (x t : List ℕ) (w : Walked) : Type 0 where
+  pub least : (v : Json) → read x ≡ reads v → w .least ≡ least none (verdict.faults v)
+  pub from : 5 * 65536 ≤ w .least
+  pub indexed : (v : Json) → read x ≡ reads v → Indexed x t (objectsOf v) (w .index)

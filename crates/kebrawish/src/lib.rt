@@ -5,8 +5,9 @@ ghost use lib.ListN.{length};
 ghost use Rattle.nodes.specs.Faults.{none, ruleOf, placeIn};
 ghost use Rattle.verdict.specs.Verdict.{refused, parsed, verdict};
 ghost use Rattle.json.specs.Machine.{read};
-ghost use Rattle.kebrawish.specs.Answers.{numberOf, told, word, Stands, Judges};
+ghost use Rattle.kebrawish.specs.Answers.{numberOf, refusal, told, word, Screens, Stands, Opens, Examined};
 use json::Parsed;
+use schema::Walked;
 
 // The rules of document 01 that a text can break.
 pub enum Broken {
@@ -64,41 +65,108 @@ fn rule_of(number: u32) -> Broken
     }
 }
 
-// A refusal.
-fn refuse(rule: Broken, place: usize) -> Verdict
-    ensures { λ r. ⌜ told r ≡ refused (numberOf rule) place ⌝ }
-{
-    Verdict::Refused(Refusal {
-        rule: rule,
-        place: place,
-    })
+// Rules 1 and 2 kept, or the refusal.
+enum Screened {
+    Passed,
+    Refused(Refusal),
+}
+
+// The number of words of the tree that a text is read as, or the refusal by rule 3 or 4.
+enum Opened {
+    Tree(usize),
+    Refused(Refusal),
 }
 
 // The refusal of a fault.
-fn refuse_fault(fault: u32) -> Verdict
+fn refuse_fault(fault: u32) -> Refusal
     requires { ⌜ (5 * 65536 ≤ fault) × (fault < none) ⌝ }
-    ensures { λ r. ⌜ told r ≡ refused (ruleOf fault) (placeIn fault) ⌝ }
+    ensures { λ r. ⌜ refusal r ≡ refused (ruleOf fault) (placeIn fault) ⌝ }
 {
-    refuse(rule_of(fault / 65536), (fault % 65536) as usize)
+    Refusal {
+        rule: rule_of(fault / 65536),
+        place: (fault % 65536) as usize,
+    }
 }
 
-// Rules 5 to 17 over the node table of a text, whose first n words are its tree's. Every fault is below 18 * 65,536.
-fn judge_table(text: &[u8], table: &[u32], n: usize) -> Verdict
+// Rules 1 and 2.
+fn screen(text: &[u8]) -> Screened
+    ensures { λ r. ⌜ Screens (now (text .entry)) r ⌝ }
+{
+    if text.len() > 65535 {
+        return Screened::Refused(Refusal {
+            rule: Broken::TooLong,
+            place: 65535,
+        });
+    }
+    let whole = utf8::whole(text);
+    if whole < text.len() {
+        return Screened::Refused(Refusal {
+            rule: Broken::NotUtf8,
+            place: whole,
+        });
+    }
+    Screened::Passed
+}
+
+// Reads a text that is not too long into the node table, or refuses it by rule 3 or 4.
+fn open(text: &[u8], table: &mut [u32]) -> Opened
+    requires { ⌜ (length (now text) ≤ 65535) × (length (now table) ≡ 98352) ⌝ }
+    ensures { λ r. ⌜ Opens (now (text .entry)) (now (table .exit)) r ⌝ }
+{
+    let answer = json::parse(text, table);
+    match answer {
+        Parsed::Nodes(n) => Opened::Tree(n),
+        Parsed::Bad(p) => Opened::Refused(Refusal {
+            rule: Broken::NotJson,
+            place: p,
+        }),
+        Parsed::Deep(p) => Opened::Refused(Refusal {
+            rule: Broken::TooDeep,
+            place: p,
+        }),
+        Parsed::Long => Opened::Refused(Refusal {
+            rule: Broken::TooLong,
+            place: 65535,
+        }),
+        Parsed::Short => Opened::Refused(Refusal {
+            rule: Broken::TooLong,
+            place: 65535,
+        }),
+    }
+}
+
+// The least fault of the rules 5 to 17 of a text, whose tree's words are the first n of the table, and the index of its city objects.
+// Every fault is below 18 * 65,536.
+fn examine(text: &[u8], table: &[u32], n: usize) -> Walked
     requires { ⌜ Stands (now text) (now table) n ⌝ }
-    ensures { λ r. ⌜ Judges (now (text .entry)) (told r) ⌝ }
+    ensures { λ r. ⌜ Examined (now (text .entry)) (now (table .entry)) r ⌝ }
 {
     let a = nodes::unpaired(text, table, n, 1179648);
     let b = nodes::repeated(text, table, n, a);
     let walked = schema::root(text, table, b);
     let c = walked.least;
     if c < 1179648 {
-        return refuse_fault(c);
+        return walked;
     }
     let index = walked.index;
     let d = links::links(text, table, index, c);
-    if d < 1179648 {
-        return refuse_fault(d);
+    Walked {
+        least: d,
+        index: index,
     }
+}
+
+// Rules 5 to 17 over the node table of a text, whose first n words are its tree's.
+fn judge_table(text: &[u8], table: &[u32], n: usize) -> Verdict
+    requires { ⌜ Stands (now text) (now table) n ⌝ }
+    ensures { λ r. ⌜ told r ≡ parsed (read (now (text .entry))) ⌝ }
+{
+    let walked = examine(text, table, n);
+    let least = walked.least;
+    if least < 1179648 {
+        return Verdict::Refused(refuse_fault(least));
+    }
+    let index = walked.index;
     Verdict::Accepted(index.count)
 }
 
@@ -109,13 +177,10 @@ fn judge_json(text: &[u8]) -> Verdict
 {
     let mut space: [u32; 98352] = [0; 98352];
     let table: &mut [u32] = &mut space;
-    let answer = json::parse(text, table);
-    match answer {
-        Parsed::Nodes(n) => judge_table(text, table, n),
-        Parsed::Bad(p) => refuse(Broken::NotJson, p),
-        Parsed::Deep(p) => refuse(Broken::TooDeep, p),
-        Parsed::Long => refuse(Broken::TooLong, 65535),
-        Parsed::Short => refuse(Broken::TooLong, 65535),
+    let opened = open(text, table);
+    match opened {
+        Opened::Tree(n) => judge_table(text, table, n),
+        Opened::Refused(refusal) => Verdict::Refused(refusal),
     }
 }
 
@@ -123,14 +188,11 @@ fn judge_json(text: &[u8]) -> Verdict
 pub fn judge(text: &[u8]) -> Verdict
     ensures { λ r. ⌜ told r ≡ verdict (now (text .entry)) ⌝ }
 {
-    if text.len() > 65535 {
-        return refuse(Broken::TooLong, 65535);
+    let screened = screen(text);
+    match screened {
+        Screened::Passed => judge_json(text),
+        Screened::Refused(refusal) => Verdict::Refused(refusal),
     }
-    let whole = utf8::whole(text);
-    if whole < text.len() {
-        return refuse(Broken::NotUtf8, whole);
-    }
-    judge_json(text)
 }
 
 // The paper's number of a rule.

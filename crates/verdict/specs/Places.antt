@@ -602,16 +602,22 @@ mutual
 
 -- ---- all rules
 
-pub five-among : (v : Json) → Placed v → All (Among 5 6) (map (fault 5) (rule5 v))
-five-among v p = rule-among 5 6 5 tt (rule5 v) (rule5-low v p)
-
-pub six-among : (v : Json) → Placed v → All (Among 6 7) (map (fault 6) (rule6 v))
-six-among v p = rule-among 6 7 6 tt (rule6 v) (rule6-spans (p .spans) (p .before))
-
 -- a wider range of rules
 wider : (lo hi lo′ hi′ : ℕ) → lo′ ≤ lo → hi ≤ hi′ → (fs : List ℕ) → All (Among lo hi) fs → All (Among lo′ hi′) fs
 wider lo hi lo′ hi′ h k [] a = tt
 wider lo hi lo′ hi′ h k (f ∷ fs) a = let (l, u) = a .0 in ((omega arith, omega arith), wider lo hi lo′ hi′ h k fs (a .1))
+
+-- the faults of the rules 5 to 14
+abbrev pub early : Json → List ℕ
+early v = map (fault 5) (rule5 v) ++ map (fault 6) (rule6 v) ++ cityJson v
+
+pub early-among : (v : Json) → Placed v → All (Among 5 15) (early v)
+early-among v p =
+    let a = map (fault 5) (rule5 v) in
+    let b = map (fault 6) (rule6 v) in
+    both 5 15 (a ++ b) (cityJson v)
+    (both 5 15 a b (wider 5 6 5 15 (omega arith) (omega arith) a (rule-among 5 6 5 tt (rule5 v) (rule5-low v p))) (wider 6 7 5 15 (omega arith) (omega arith) b (rule-among 6 7 6 tt (rule6 v) (rule6-spans (p .spans) (p .before)))))
+    (wider 7 15 5 15 (omega arith) (omega arith) (cityJson v) (root-safe v p))
 
 -- a fault of a rule from 5 to 17
 abbrev pub Small : ℕ → Type 0
@@ -619,13 +625,4 @@ Small f = Among 5 18 f
 
 pub faults-small : (v : Json) → Placed v → All Small (faults v)
 unfolding faults
-faults-small v p =
-    let a = map (fault 5) (rule5 v) in
-    let b = map (fault 6) (rule6 v) in
-    let c = cityJson v in
-    let d = linkFaults v in
-    both 5 18 (a ++ b ++ c) d
-    (both 5 18 (a ++ b) c
-    (both 5 18 a b (wider 5 6 5 18 (omega arith) (omega arith) a (five-among v p)) (wider 6 7 5 18 (omega arith) (omega arith) b (six-among v p)))
-    (wider 7 15 5 18 (omega arith) (omega arith) c (root-safe v p)))
-    (wider 15 18 5 18 (omega arith) (omega arith) d (links-safe v p))
+faults-small v p = both 5 18 (early v) (linkFaults v) (wider 5 15 5 18 (omega arith) (omega arith) (early v) (early-among v p)) (wider 15 18 5 18 (omega arith) (omega arith) (linkFaults v) (links-safe v p))
