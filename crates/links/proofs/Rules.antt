@@ -70,7 +70,7 @@ string-text : {x t : List ℕ} {i : ℕ} {v : Json} → Sub x t i v → isString
 unfolding textAt
 string-text s h = text-at s h
 
-name-text : {x t : List ℕ} {i : ℕ} {m : Member} → MemberAt x t i m → nameOf m ≡ textAt x t i
+pub name-text : {x t : List ℕ} {i : ℕ} {m : Member} → MemberAt x t i m → nameOf m ≡ textAt x t i
 unfolding nameOf textAt
 name-text d = quoted-at (d .name) .text
 

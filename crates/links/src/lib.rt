@@ -15,7 +15,7 @@ ghost use Rattle.links.specs.Links.{hasParent, linkFaults};
 ghost use Rattle.links.specs.Says.{TextNode, Objects, FindsObject, Before, Amongst, idsUnder, Fresh, EntryGives, ListGives, MemberNode, MemberGives, Ready, LinksGive};
 
 // Do the strings or names at two nodes stand for the same text?
-fn same(text: &[u8], table: &[u32], i: usize, j: usize) -> bool
+pub fn same(text: &[u8], table: &[u32], i: usize, j: usize) -> bool
     requires { ⌜ (TextNode (now text) (now table) i) × (TextNode (now text) (now table) j) ⌝ }
     ensures { λ r. ⌜ r ≡ utf8.same (textAt (now (text .entry)) (now (table .entry)) i) (textAt (now (text .entry)) (now (table .entry)) j) ⌝ }
 {

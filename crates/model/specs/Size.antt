@@ -10,7 +10,7 @@ use Prim.Native.String.{String}
 use lib.ListN.{length, getD, length-append, length-map}
 use lib.Dec.{eqb}
 use lib.IntN.{ℤ, pos, negsuc}
-use Rattle.model.specs.Code.{le, signed, each}
+use Rattle.model.specs.Code.{All, le, signed, each}
 use Rattle.numerals.specs.Numerals.{Decimal}
 use Rattle.words.specs.Words.{depth, valuesDepth}
 use Rattle.model.specs.Model.{Nest, Three, Lod, Surface, Semantics, Geometry, Object, Model, Rec, rec}
@@ -120,9 +120,30 @@ unfolding orNull found size
 orNull-size option.none n h k = h
 orNull-size (some j) n h k = k
 
-get-size : (n : String) (j : Json) → size (get n j) ≤ size j
+pub get-size : (n : String) (j : Json) → size (get n j) ≤ size j
 unfolding get
 get-size n j = orNull-size (find n j) (size j) (size-pos j) (omega (arith, find-size n j))
+
+-- ---- what stands in a value is no larger
+
+total-each : {A : Type 0} (f g : A → ℕ) → ((a : A) → g a ≤ f a) → (n : ℕ) (l : List A) → total f l ≤ n → All (λ a. g a ≤ n) l
+unfolding total
+total-each f g low n [] h = tt
+total-each f g low n (a ∷ l) h = (omega (arith, low a), total-each f g low n l (omega arith))
+
+-- its elements
+pub elements-within : (n : ℕ) (j : Json) → size j ≤ n → All (λ k. size k ≤ n) (elements j)
+elements-within n j h = total-each size size (λ k. omega arith) n (elements j) (omega (arith, elements-size j))
+
+-- its members
+pub members-within : (n : ℕ) (j : Json) → size j ≤ n → All (λ m. size (m .1) ≤ n) (members j)
+unfolding memberSize
+members-within n j h = total-each memberSize (λ m. size (m .1)) (λ m. omega arith) n (members j) (omega (arith, members-size j))
+
+-- a member that is found
+pub find-within : (n : ℕ) (name : String) (j k : Json) → size j ≤ n → find name j ≡ some k → size k ≤ n
+unfolding found
+find-within n name j k h e = omega (arith, find-size name j, ap found e)
 
 -- ---- lengths
 
@@ -130,6 +151,10 @@ count-size : (l : List Json) → length l ≤ total size l
 unfolding total
 count-size [] = omega arith
 count-size (j ∷ l) = omega (arith, size-pos j, count-size l)
+
+-- a value has no more elements than bytes
+pub count-within : (j : Json) → length (elements j) ≤ size j
+count-within j = omega (arith, count-size (elements j), elements-size j)
 
 each-bound : {A T : Type 0} (enc : A → List T) (f : A → ℕ) (c : ℕ) → ((a : A) → length (enc a) ≤ c * f a) → (l : List A) → length (each enc l) ≤ c * total f l
 unfolding each total

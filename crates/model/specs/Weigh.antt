@@ -85,7 +85,7 @@ mag-low : (z : ℤ) (n : ℕ) → natAbs z < n → mag z < n
 mag-low (pos k) n h = h
 mag-low (negsuc k) n h = omega arith
 
-decimal-fits : (d : Decimal) → GoodDecimal d → FitDecimal d
+pub decimal-fits : (d : Decimal) → GoodDecimal d → FitDecimal d
 decimal-fits d g = let a = mag-low (d .m) (10 ^ 15) (g .0) in let b = mag-low (d .e) 23 (omega arith) in (omega arith, omega arith)
 
 three-map : {A : Type 0} {P Q : A → Type 0} → ((a : A) → P a → Q a) → (t : Three A) → AllThree P t → AllThree Q t

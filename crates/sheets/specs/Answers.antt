@@ -11,7 +11,6 @@ use borrow.Author.Tests.{leb-true, leb-false, lt-leb, ltb-true}
 use Rattle.utf8.specs.Utf8.{wholeLength}
 use Rattle.json.specs.Tree.{Json}
 use Rattle.json.specs.Machine.{Outcome, reads, bad, tooDeep, read}
-use Rattle.grammar.specs.Theorems.{read-text, ordered}
 use Rattle.nodes.specs.Faults.{ruleOf, placeIn, least, none}
 use Rattle.fields.specs.Fields.{objectsOf}
 use Rattle.verdict.specs.Verdict.{Verdict, accepted, faults, given, judged, parsed, verdict}
@@ -20,7 +19,7 @@ use Rattle.verdict.specs.Exact.{Clean, accepted-clean}
 use Rattle.model.specs.Good.{GoodModel}
 use Rattle.model.specs.Size.{size}
 use Rattle.sheets.specs.Laid.{treeIn, treeOf, modelOfText, sheetOfText, Answer, laid, refused, fitted, answer, filled, roomAfter}
-use Rattle.sheets.specs.Short.{spans-size}
+use Rattle.sheets.specs.Short.{tree-within}
 use Rattle.sheets.specs.Faultless.{model-good}
 
 -- ---- accepted texts
@@ -37,7 +36,7 @@ module _ (x : List ℕ) (n : ℕ) (e : verdict x ≡ accepted n) where
 
   -- its tree is no larger than the text
   tree-short : size (clean-tree .value) ≤ 65535
-  tree-short = let (p, q, s, k) = ordered 32 x (clean-tree .value) (read-text x (clean-tree .value) .0 (clean-tree .reads)) in omega (arith, spans-size s, clean-tree .short)
+  tree-short = tree-within 65535 x (clean-tree .value) (clean-tree .short) (clean-tree .reads)
 
   -- its model is good
   pub good-text : GoodModel (modelOfText x)

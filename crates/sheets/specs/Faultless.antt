@@ -38,7 +38,7 @@ use Rattle.sheets.specs.Numbers.{boundary-good, values-good, GoodPairs, 
 -- ---- words (rules 10 and 11)
 
 -- a code of the words
-abbrev Coded : List String → List ℕ → Type 0
+abbrev pub Coded : List String → List ℕ → Type 0
 Coded words t = (1 ≤ codeOf words t) × (codeOf words t ≤ length words)
 
 -- one of the words has a code
@@ -60,7 +60,7 @@ unfolding objectType isObjectType
 object-type-good v e = type-good objectWords isAdded [] v e
 
 -- a geometry's type
-geometry-type-good : (object code : ℕ) (v : Json) → geometryType object code v ≡ [] → Coded geometryWords (textOf v)
+pub geometry-type-good : (object code : ℕ) (v : Json) → geometryType object code v ≡ [] → Coded geometryWords (textOf v)
 unfolding geometryType isGeometryType
 geometry-type-good object code v e = type-good geometryWords (is "GeometryInstance") (text 14 (λ w. eqb code 0 || isPermitted object code) ∷ []) v e
 
@@ -81,9 +81,12 @@ lod-text (a ∷ b ∷ c ∷ []) e = (digit-good a (both-left _ _ (both-left _ (i
 lod-text (a ∷ b ∷ c ∷ d ∷ t) e = absurd (never e refl)
 
 -- a lod
-lod-good : (v : Json) → lod v ≡ [] → GoodLod (lodOf (textOf v))
+pub lod-clear : (v : Json) → lod v ≡ [] → isLod (textOf v) ≡ true
 unfolding lod
-lod-good v e = let (s, (t, r)) = clear (isString ∷ text 10 isLod ∷ []) v e in lod-text (textOf v) (text-ok 10 isLod v s t)
+lod-clear v e = let (s, (t, r)) = clear (isString ∷ text 10 isLod ∷ []) v e in text-ok 10 isLod v s t
+
+lod-good : (v : Json) → lod v ≡ [] → GoodLod (lodOf (textOf v))
+lod-good v e = lod-text (textOf v) (lod-clear v e)
 
 -- no lod reads as 0
 lod-null : GoodLod (lodOf (textOf (null 0 0)))
@@ -132,7 +135,7 @@ module _ (c : ℕ) (h : 1 ≤ c) where
   coded = ne-eqb c 0 (λ z. omega arith)
 
   -- its boundary
-  boundary-clear : (n : ℕ) (b : Json) → boundaries n c b ≡ [] → (shaped (depth c) b ≡ []) × (near n (depth c) b ≡ [])
+  pub boundary-clear : (n : ℕ) (b : Json) → boundaries n c b ≡ [] → (shaped (depth c) b ≡ []) × (near n (depth c) b ≡ [])
   unfolding boundaries boundary
   boundary-clear n b e =
       let (a, (d, r)) = clear (isArray ∷ boundary n c ∷ []) b e in
@@ -140,7 +143,7 @@ module _ (c : ℕ) (h : 1 ≤ c) where
       (nil-left _ _ q, nil-right (shaped (depth c) b) _ q)
 
   -- its values, over a boundary that is well shaped
-  values-clear : (n : ℕ) (b v : Json) → shaped (depth c) b ≡ [] → schema.values n c (some b) v ≡ [] → (matches (valuesDepth c) b v ≡ []) × (near n (valuesDepth c) v ≡ [])
+  pub values-clear : (n : ℕ) (b v : Json) → shaped (depth c) b ≡ [] → schema.values n c (some b) v ≡ [] → (matches (valuesDepth c) b v ≡ []) × (near n (valuesDepth c) v ≡ [])
   unfolding schema.values overBoundary
   values-clear n b v s e =
       let (a, (d, r)) = clear (isArray ∷ overBoundary n c (some b) ∷ []) v e in
@@ -165,7 +168,7 @@ module _ (c : ℕ) (h : 1 ≤ c) where
   semantics-perhaps b s (some v) e = semantics-good b s v e
 
 -- the checks of a geometry, by the code of its type and its boundary
-abbrev geometryChecks : ℕ → ℕ → ℕ → Option Json → List Check
+abbrev pub geometryChecks : ℕ → ℕ → ℕ → Option Json → List Check
 geometryChecks n object c b =
     isObject ∷ needs ("type" ∷ "boundaries" ∷ []) ∷ needsLod
     ∷ at "type" (geometryType object c) ∷ at "lod" lod ∷ at "boundaries" (boundaries n c) ∷ at "semantics" (semantics c b) ∷ []
@@ -231,7 +234,7 @@ listed-known objects back id excused n v e l =
 -- ---- city objects
 
 -- the checks of a city object
-abbrev objectChecks : ℕ → Json → List Check
+abbrev pub objectChecks : ℕ → Json → List Check
 objectChecks n v =
     isObject ∷ needs ("type" ∷ []) ∷ at "type" objectType ∷ at "attributes" isObject ∷ at "children" links ∷ at "parents" links
     ∷ at "geometry" (geometries n (codeOf objectWords (typeText v))) ∷ []
@@ -279,13 +282,13 @@ unfolding get orNull find
 transform-null = (pairs-null, pairs-null)
 
 -- the checks of the root, with so many vertices
-abbrev rootChecks : ℕ → List Check
+abbrev pub rootChecks : ℕ → List Check
 rootChecks n =
     isObject ∷ needs ("type" ∷ "version" ∷ "transform" ∷ "CityObjects" ∷ "vertices" ∷ []) ∷ at "type" (word "CityJSON") ∷ at "version" (word "2.0")
     ∷ at "transform" transform ∷ at "CityObjects" (cityObjects n) ∷ at "vertices" vertices ∷ []
 
 -- each object is one in which no check finds a fault
-objects-clear : (n : ℕ) (v : Json) → cityObjects n v ≡ [] → forEach (cityObject n) (values (members v)) ≡ []
+pub objects-clear : (n : ℕ) (v : Json) → cityObjects n v ≡ [] → forEach (cityObject n) (values (members v)) ≡ []
 unfolding cityObjects eachMember
 objects-clear n v e = clear (isObject ∷ notTooMany ∷ eachMember (cityObject n) ∷ []) v e .1 .1 .0
 

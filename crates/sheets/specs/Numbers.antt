@@ -22,7 +22,7 @@ use Rattle.schema.specs.Schema.{threePairs}
 use Rattle.model.specs.Code.{All}
 use Rattle.model.specs.Good.{AllThree, Leaves, GoodDecimal, GoodVertex, GoodValue, Both, Shaped}
 use Rattle.model.specs.Read.{numberOf, zeroIfNone, decimalOf, times, integerOf, natural, indexOf, valueOf, threeOf, nestOf}
-use Rattle.sheets.specs.Clear.{nil-left, nil-right, cond-left, kept, numeral-ok, clear, both-good, each-good}
+use Rattle.sheets.specs.Clear.{nil-left, nil-right, cond-left, kept, numeral-ok, clear, all-both, all-map, each-clear, both-good, each-good}
 
 -- ---- integers
 
@@ -38,7 +38,7 @@ unfolding wholeOf
 whole-read raw e = times-ten (decimal raw .m) (decimal raw .e) ∙ whole raw e
 
 -- what the rules read of an integer is what the model reads
-integer-read : (v : Json) → isIntegerValue v ≡ true → integerOf v ≡ integer (numeralOf v)
+pub integer-read : (v : Json) → isIntegerValue v ≡ true → integerOf v ≡ integer (numeralOf v)
 unfolding isIntegerValue integerOf decimalOf numberOf zeroIfNone
 integer-read (null p e) h = cc
 integer-read (bool p e b) h = cc
@@ -54,7 +54,7 @@ below n (pos k) h = ltb-true k n h
 below n (negsuc k) h = absurd (never h refl)
 
 -- the check of rule 13 at an integer
-near-below : (n : ℕ) (v : Json) → isIntegerValue v ≡ true → near n zero v ≡ [] → isBelow n (integer (numeralOf v)) ≡ true
+pub near-below : (n : ℕ) (v : Json) → isIntegerValue v ≡ true → near n zero v ≡ [] → isBelow n (integer (numeralOf v)) ≡ true
 unfolding near isIntegerValue
 near-below n v h e = numeral-ok 13 (λ raw. isBelow n (integer raw)) v (both-left (isNumberValue v) _ h) e
 
@@ -102,15 +102,22 @@ levels-good n d v good (b ∷ bs) (x ∷ xs) l p r =
     let more = levels-good n d v good bs xs (omega arith) (nil-right (matches v b x) _ p) (nil-right (near n v x) _ r) in
     ((one .0, more .0), (one .1, more .1))
 
+-- one level of values over one of a boundary: of its count
+pub matches-clear : (d : ℕ) (b x : Json) → matches (suc d) b x ≡ [] → (length (elements b) ≡ length (elements x)) × (forBoth (matches d) (elements b) (elements x) ≡ [])
+unfolding matches
+matches-clear d b x m =
+    let alike = isArrayValue x && eqb (length (elements b)) (length (elements x)) in
+    let t = kept alike 12 x (nil-left _ (cond alike (forBoth (matches d) (elements b) (elements x)) []) m) in
+    (eqb-true _ _ (both-right (isArrayValue x) _ t), cond-left alike _ [] t (nil-right (unless alike 12 x) _ m))
+
 -- values in v levels over a boundary of no fewer: of its counts, each null or below n
 pub values-good : (n d v : ℕ) (b x : Json) → v ≤ d → matches v b x ≡ [] → near n v x ≡ [] → GoodValues n d v b x
 unfolding matches near nestOf
 values-good n d zero b x h m q = (tt, value-good n x (kept _ 12 x m) q)
 values-good n zero (suc v) b x h m q = absurd (omega arith)
 values-good n (suc d) (suc v) b x h m q =
-    let alike = isArrayValue x && eqb (length (elements b)) (length (elements x)) in
-    let t = kept alike 12 x (nil-left _ (cond alike (forBoth (matches v) (elements b) (elements x)) []) m) in
-    levels-good n d v (λ c y. values-good n d v c y (omega arith)) (elements b) (elements x) (eqb-true _ _ (both-right (isArrayValue x) _ t)) (cond-left alike _ [] t (nil-right (unless alike 12 x) _ m)) q
+    let (l, f) = matches-clear v b x m in
+    levels-good n d v (λ c y. values-good n d v c y (omega arith)) (elements b) (elements x) l f q
 
 -- ---- transforms and vertices
 
@@ -125,7 +132,7 @@ three-good read P z v a = (of (elements v) 0 a, of (elements v) 1 a, of (element
     of (w ∷ ws) (suc i) b = of ws i (b .1)
 
 -- a pair in range
-pair-good : (d : Decimal) → isPair (cond (inRange d) (some d) option.none) ≡ true → GoodDecimal d
+pub pair-good : (d : Decimal) → isPair (cond (inRange d) (some d) option.none) ≡ true → GoodDecimal d
 unfolding isPair inRange
 pair-good d e = of (inRange d) refl e
   where
@@ -170,23 +177,32 @@ fits (pos n) e = ltb-true n (2 ^ 31) e
 fits (negsuc n) e = ltb-true n (2 ^ 31) e
 
 -- a coordinate
-coordinate-good : (v : Json) → isIntegerValue v ≡ true → coordinate v ≡ [] → mag (integerOf v) < 2 ^ 31
+pub coordinate-clear : (v : Json) → isIntegerValue v ≡ true → coordinate v ≡ [] → fits32 (integer (numeralOf v)) ≡ true
 unfolding coordinate isIntegerValue
-coordinate-good v h e =
-    subst (λ z. mag z < 2 ^ 31) (sym (integer-read v h)) (fits (integer (numeralOf v)) (numeral-ok 13 (λ raw. fits32 (integer raw)) v (both-left (isNumberValue v) _ h) e))
+coordinate-clear v h e = numeral-ok 13 (λ raw. fits32 (integer raw)) v (both-left (isNumberValue v) _ h) e
 
--- each of several
-coordinates-good : (vs : List Json) → allIntegers vs ≡ true → forEach coordinate vs ≡ [] → All (λ z. mag z < 2 ^ 31) (map integerOf vs)
-unfolding allIntegers forEach
-coordinates-good [] h e = tt
-coordinates-good (v ∷ vs) h e =
-    (coordinate-good v (both-left (isIntegerValue v) _ h) (nil-left (coordinate v) _ e), coordinates-good vs (both-right (isIntegerValue v) _ h) (nil-right (coordinate v) _ e))
+coordinate-good : (v : Json) → isIntegerValue v ≡ true → coordinate v ≡ [] → mag (integerOf v) < 2 ^ 31
+coordinate-good v h e = subst (λ z. mag z < 2 ^ 31) (sym (integer-read v h)) (fits (integer (numeralOf v)) (coordinate-clear v h e))
 
--- a vertex
-pub vertex-good : (v : Json) → vertex v ≡ [] → GoodVertex (threeOf integerOf v)
-unfolding vertex isTriple each integerOf decimalOf numberOf zeroIfNone times
-vertex-good v e = of (isTriple v) refl e
+-- several integers
+integers : (vs : List Json) → allIntegers vs ≡ true → All (λ v. isIntegerValue v ≡ true) vs
+unfolding allIntegers
+integers [] h = tt
+integers (v ∷ vs) h = (both-left (isIntegerValue v) _ h, integers vs (both-right (isIntegerValue v) _ h))
+
+-- a vertex: three integers, whose range is checked
+pub vertex-clear : (v : Json) → vertex v ≡ [] → (length (elements v) ≡ 3) × All (λ w. isIntegerValue w ≡ true) (elements v) × (forEach coordinate (elements v) ≡ [])
+unfolding vertex isTriple each
+vertex-clear v e = of (isTriple v) refl e
   where
-    of : (b : Bool) → isTriple v ≡ b → cond b (each coordinate v) (unless false 12 v) ≡ [] → GoodVertex (threeOf integerOf v)
-    of true q d = three-good integerOf (λ z. mag z < 2 ^ 31) (omega arith) v (coordinates-good (elements v) (both-right (isArrayValue v && eqb (length (elements v)) 3) _ q) d)
+    of : (b : Bool) → isTriple v ≡ b → cond b (each coordinate v) (unless false 12 v) ≡ [] → (length (elements v) ≡ 3) × All (λ w. isIntegerValue w ≡ true) (elements v) × (forEach coordinate (elements v) ≡ [])
+    of true q d =
+        (eqb-true _ _ (both-right (isArrayValue v) _ (both-left _ (allIntegers (elements v)) q)), integers (elements v) (both-right (isArrayValue v && eqb (length (elements v)) 3) _ q), d)
     of false q d = absurd (never (kept false 12 v d) refl)
+
+pub vertex-good : (v : Json) → vertex v ≡ [] → GoodVertex (threeOf integerOf v)
+unfolding integerOf decimalOf numberOf zeroIfNone times
+vertex-good v e =
+    let (l, i, c) = vertex-clear v e in
+    three-good integerOf (λ z. mag z < 2 ^ 31) (omega arith) v
+    (all-map integerOf (λ z. mag z < 2 ^ 31) (elements v) (all-both (λ w. isIntegerValue w ≡ true) (λ w. coordinate w ≡ []) (λ w. mag (integerOf w) < 2 ^ 31) coordinate-good (elements v) i (each-clear coordinate (elements v) c)))

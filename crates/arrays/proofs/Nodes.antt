@@ -1,0 +1,175 @@
+-- Numbers and arrays at a node, from what the code's tests and callees say. Assumes nothing.
+use Prim.Native.Nat.{ℕ, zero, suc, _+_, _-_, _≤_, _<_}
+use native.Mathlib.Omega.{arith}
+use mathlib.Core.Path.{_≡_, refl, sym, ap, _∙_, subst}
+use mathlib.Core.Bool.{Bool, true, false}
+use mathlib.Core.List.{List, _++_}
+use mathlib.Core.Option.{Option, some}
+use mathlib.Core.Option as option
+use lib.ListN.{length, getD}
+use lib.Seq.{slice}
+use lib.IntN.{ℤ}
+use mir.Syntax.{w64}
+use mir.Val.{toZ, ofZ}
+use mir.Facts.{toZ-ofZ}
+use borrow.Author.Needs.{sfits-of}
+use Rattle.numerals.specs.Numerals.{Decimal, pairOf, integer, fits32}
+use Rattle.numerals.specs.Reading.{pairIn, IsWhole}
+use Rattle.numerals.specs.declared.Numeral.{Numeral}
+use Rattle.numerals.specs.declared.Numeral.the-variants as variant
+use Rattle.numerals.specs.declared.Whole.{Whole}
+use Rattle.json.specs.Tree.{Json}
+use Rattle.json.specs.Table.{Sub}
+use Rattle.json.specs.Laws.{words}
+use Rattle.nodes.specs.Access.{isNullValue, isNumberValue, elements, numeralOf}
+use Rattle.nodes.specs.Says.{Node, Gives}
+use Rattle.nodes.specs.Laws.{NumeralAt, numeral-at}
+use Rattle.model.specs.Code.{le, signed, each}
+use Rattle.model.specs.Model.{layThree, layDecimal, layNest, layValue, layValues}
+use Rattle.model.specs.Read.{zeroIfNone, decimalOf, integerOf, indexOf, valueOf, threeOf, nestOf}
+use Rattle.model.specs.Weigh.{decimal-fits}
+use Rattle.writer.specs.Writes.{Writes, twos}
+use Rattle.writer.specs.Laws.{then, wrote-signed}
+use Rattle.arrays.specs.Fits.{Pair, Coordinate, Index, Value, Elements, Triple, Leaves}
+use Rattle.arrays.specs.Says.{Holds, Wrote}
+use Rattle.arrays.specs.Laws.{holds-as, wrote-as, wrote-then, wrote-told}
+use Rattle.arrays.specs.Parts.{three-each, nest-parts, values-parts, pair-read, index-read, coordinate-read, integer-number, value-null, value-index}
+
+-- a number
+unfoldable pub Number : Json → Type 0
+Number v = isNumberValue v ≡ true
+
+-- a level less
+leaves-suc : (P : Json → Type 0) (depth : ℕ) → (depth ≡ 0 → ⊥) → (v : Json) → Leaves P depth v → Elements (Leaves P (depth - 1)) v
+unfolding Leaves
+leaves-suc P zero h v l = absurd (h refl)
+leaves-suc P (suc d) h v l = let e : suc d - 1 ≡ d = omega arith in rw e l
+
+nest-suc : (depth : ℕ) → (depth ≡ 0 → ⊥) → (v : Json) → le 4 (length (elements v)) ++ each (λ w. layNest (depth - 1) (nestOf indexOf (depth - 1) w)) (elements v) ≡ layNest depth (nestOf indexOf depth v)
+nest-suc zero h v = absurd (h refl)
+nest-suc (suc d) h v = let e : suc d - 1 ≡ d = omega arith in rw e (sym (nest-parts d v))
+
+values-suc : (depth : ℕ) → (depth ≡ 0 → ⊥) → (v : Json) → each (λ w. layValues (depth - 1) (nestOf valueOf (depth - 1) w)) (elements v) ≡ layValues depth (nestOf valueOf depth v)
+values-suc zero h v = absurd (h refl)
+values-suc (suc d) h v = let e : suc d - 1 ≡ d = omega arith in rw e (sym (values-parts d v))
+
+module _ {x t : List ℕ} {i : ℕ} where
+  pub pair-number : Holds Pair x t i → Holds Number x t i
+  unfolding Pair Number
+  pair-number h = holds-as (λ v p. p .0) h
+
+  pub coordinate-number : Holds Coordinate x t i → Holds Number x t i
+  unfolding Coordinate Number
+  coordinate-number h = holds-as (λ v p. integer-number v (p .0)) h
+
+  pub index-number : Holds Index x t i → Holds Number x t i
+  unfolding Index Number
+  index-number h = holds-as (λ v p. integer-number v (p .0)) h
+
+  -- a numeral stands from p to e
+  module _ (h : Holds Number x t i) {p e : ℕ} (q : p ≡ getD t i 0) (o : e ≡ getD t (i + 1) 0) where
+    numeral : (v : Json) → Sub x t i v → NumeralAt x t i (numeralOf v)
+    unfolding Number
+    numeral v s = numeral-at s (h .holds v s)
+
+    bytes : (v : Json) → Sub x t i v → slice p e x ≡ numeralOf v
+    bytes v s = rw (q, o) (sym (numeral v s .bytes))
+
+    pub number-order : p ≤ e
+    number-order = omega (arith, numeral (h .node .value) (h .node .stands) .low)
+
+    pub number-inside : e ≤ length x
+    number-inside = omega (arith, numeral (h .node .value) (h .node .stands) .high)
+
+  -- a pair
+  module _ (h : Holds Pair x t i) {p e : ℕ} (a : Numeral) (q : p ≡ getD t i 0) (o : e ≡ getD t (i + 1) 0) (m : pairIn a ≡ pairOf (slice p e x)) where
+    paired : (v : Json) → Sub x t i v → pairIn a ≡ some (decimalOf v)
+    paired v s = m ∙ ap pairOf (bytes (pair-number h) q o v s) ∙ pair-read v (h .holds v s) .0
+
+    pub pair-out : {f : Json → List ℕ} {d₀ d : List ℕ} {to r : ℕ} → a ≡ variant.Out → Wrote f x t i d₀ d to r
+    unfolding pairIn
+    pair-out k = absurd (go (h .node .value) (h .node .stands))
+      where
+        go : (v : Json) → Sub x t i v → ⊥
+        go v s = let z : _≡_ {A = Option Decimal} option.none (some (decimalOf v)) = rw k at (paired v s) in let y : _≡_ {A = ℕ} 0 1 = cc in omega arith
+
+    pub pair-wrote : {n k : ℤ} {b c : ℕ} {d₀ d₁ d₂ : List ℕ} {to r₁ r : ℕ} → a ≡ variant.Pair n k → b ≡ twos (toZ w64 (ofZ w64 n)) → c ≡ twos (toZ w64 (ofZ w64 k)) → Writes (le 8 b) d₀ d₁ to r₁ → Writes (le 2 c) d₁ d₂ r₁ r → Wrote (λ v. layDecimal (decimalOf v)) x t i d₀ d₂ to r
+    unfolding pairIn layDecimal zeroIfNone
+    pair-wrote {n} {k} {b} {c} {d₀} {d₁} {d₂} {to} {r₁} {r} w y z u g = record { is = go }
+      where
+        go : (v : Json) → Sub x t i v → Writes (signed 8 (decimalOf v .m) ++ signed 2 (decimalOf v .e)) d₀ d₂ to r
+        go v s =
+            let l : some (record { m = n; e = k }) ≡ some (decimalOf v) = rw w at (paired v s) in
+            let j : record { m = n; e = k } ≡ decimalOf v = ap zeroIfNone l in
+            let f = decimal-fits (decimalOf v) (pair-read v (h .holds v s) .1) in
+            let y′ : b ≡ twos (decimalOf v .m) = y ∙ ap twos (ap (λ z. toZ w64 (ofZ w64 z)) (ap (λ q. q .m) j) ∙ toZ-ofZ (sfits-of (omega (arith, f .0)))) in
+            let z′ : c ≡ twos (decimalOf v .e) = z ∙ ap twos (ap (λ z. toZ w64 (ofZ w64 z)) (ap (λ q. q .e) j) ∙ toZ-ofZ (sfits-of (omega (arith, f .1)))) in
+            rw (← wrote-signed 8 (decimalOf v .m) (omega arith) (f .0), ← wrote-signed 2 (decimalOf v .e) (omega arith) (f .1), ← y′, ← z′) (then u g)
+
+  -- a coordinate
+  module _ (h : Holds Coordinate x t i) {p e : ℕ} (q : p ≡ getD t i 0) (o : e ≡ getD t (i + 1) 0) where
+    pub coordinate-small : fits32 (integer (slice p e x)) ≡ true
+    unfolding Coordinate
+    coordinate-small = let d = h .node in rw (bytes (coordinate-number h) q o (d .value) (d .stands)) (h .holds (d .value) (d .stands) .1)
+
+    pub coordinate-wrote : {z : ℤ} {b : ℕ} {d₀ d : List ℕ} {to r : ℕ} → z ≡ integer (slice p e x) → b ≡ twos z → Writes (le 4 b) d₀ d to r → Wrote (λ v. signed 4 (integerOf v)) x t i d₀ d to r
+    coordinate-wrote {z} {b} {d₀} {d} {to} {r} y k w = record { is = go }
+      where
+        go : (v : Json) → Sub x t i v → Writes (signed 4 (integerOf v)) d₀ d to r
+        go v s =
+            let (c, l) = coordinate-read v (h .holds v s) in
+            let n : integerOf v ≡ z = c ∙ ap integer (sym (bytes (coordinate-number h) q o v s)) ∙ sym y in
+            rw (← wrote-signed 4 (integerOf v) (omega arith) l, n, ← k) w
+
+  -- an index
+  pub index-wrote : Holds Index x t i → {p e : ℕ} {w : Whole} {d₀ d : List ℕ} {to r : ℕ} → p ≡ getD t i 0 → e ≡ getD t (i + 1) 0 → IsWhole (slice p e x) w → Writes (le 4 (w .magnitude)) d₀ d to r → Wrote (λ v. le 4 (indexOf v)) x t i d₀ d to r
+  index-wrote h {w = w} {d₀} {d} {to} {r} q o k u = record { is = go }
+    where
+      go : (v : Json) → Sub x t i v → Writes (le 4 (indexOf v)) d₀ d to r
+      go v s = let z : indexOf v ≡ w .magnitude = index-read v (h .holds v s) .0 ∙ rw (← bytes (index-number h) q o v s) (sym (k .size)) in rw z u
+
+  -- three of a kind
+  pub triple-elements : (P : Json → Type 0) → Holds (Triple P) x t i → Holds (Elements P) x t i
+  unfolding Triple
+  triple-elements P h = holds-as (λ v p. p .1) h
+
+  pub triple-wrote : {A : Type 0} (P : Json → Type 0) {d₀ d : List ℕ} {to r : ℕ} (enc : A → List ℕ) (read : Json → A) → Holds (Triple P) x t i → Wrote (λ v. each (λ w. enc (read w)) (elements v)) x t i d₀ d to r → Wrote (λ v. layThree enc (threeOf read v)) x t i d₀ d to r
+  unfolding Triple
+  triple-wrote P enc read h w = wrote-as (λ v s. three-each enc read v (h .holds v s .0)) w
+
+  -- a null value, and another
+  pub null-wrote : {b : Bool} {d₀ d : List ℕ} {to r : ℕ} → Gives isNullValue x t i b → b ≡ true → Writes (le 4 0xffff_ffff) d₀ d to r → Wrote (λ v. layValue (valueOf v)) x t i d₀ d to r
+  unfolding layValue
+  null-wrote g e w = record { is = λ v s. rw (value-null v (sym (g .is v s) ∙ e)) w }
+
+  pub value-is : {b : Bool} → Holds Value x t i → Gives isNullValue x t i b → b ≡ false → Holds Index x t i
+  unfolding Value
+  value-is h g e = record { node = h .node; holds = λ v s. h .holds v s (sym (g .is v s) ∙ e) }
+
+  pub value-wrote : {b : Bool} {d₀ d : List ℕ} {to r : ℕ} → Holds Value x t i → Gives isNullValue x t i b → b ≡ false → Wrote (λ v. le 4 (indexOf v)) x t i d₀ d to r → Wrote (λ v. layValue (valueOf v)) x t i d₀ d to r
+  unfolding layValue Number
+  value-wrote h g e w = record { is = λ v s. rw (value-index v (index-number (value-is h g e) .holds v s)) (w .is v s) }
+
+  -- what stands at a depth
+  pub leaf : (P : Json → Type 0) (depth : ℕ) → Holds (Leaves P depth) x t i → depth ≡ 0 → Holds P x t i
+  unfolding Leaves
+  leaf P depth h e = rw e at h
+
+  pub deeper : (P : Json → Type 0) (depth : ℕ) → Holds (Leaves P depth) x t i → (depth ≡ 0 → ⊥) → Holds (Elements (Leaves P (depth - 1))) x t i
+  deeper P depth h n = holds-as (leaves-suc P depth n) h
+
+  module _ (depth : ℕ) {d₀ d : List ℕ} {to r : ℕ} where
+    pub nest-leaf : depth ≡ 0 → Wrote (λ v. le 4 (indexOf v)) x t i d₀ d to r → Wrote (λ v. layNest depth (nestOf indexOf depth v)) x t i d₀ d to r
+    unfolding layNest nestOf
+    nest-leaf e w = rw e w
+
+    pub values-leaf : depth ≡ 0 → Wrote (λ v. layValue (valueOf v)) x t i d₀ d to r → Wrote (λ v. layValues depth (nestOf valueOf depth v)) x t i d₀ d to r
+    unfolding layValues nestOf
+    values-leaf e w = rw e w
+
+  pub nest-array : (depth : ℕ) {n : ℕ} {d₀ d₁ d₂ : List ℕ} {to q r : ℕ} → (depth ≡ 0 → ⊥) → Gives (λ v. length (elements v)) x t i n → Writes (le 4 n) d₀ d₁ to q
+      → Wrote (λ v. each (λ w. layNest (depth - 1) (nestOf indexOf (depth - 1) w)) (elements v)) x t i d₁ d₂ q r → Wrote (λ v. layNest depth (nestOf indexOf depth v)) x t i d₀ d₂ to r
+  nest-array depth h g u w = wrote-as (λ v s. nest-suc depth h v) (wrote-then (wrote-told (le 4) g u) w)
+
+  pub values-array : (depth : ℕ) {d₀ d : List ℕ} {to r : ℕ} → (depth ≡ 0 → ⊥) → Wrote (λ v. each (λ w. layValues (depth - 1) (nestOf valueOf (depth - 1) w)) (elements v)) x t i d₀ d to r → Wrote (λ v. layValues depth (nestOf valueOf depth v)) x t i d₀ d to r
+  values-array depth h w = wrote-as (λ v s. values-suc depth h v) w

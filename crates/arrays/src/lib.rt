@@ -1,0 +1,164 @@
+// Writes the numbers and the nested arrays of an accepted text to a lent sheet, as far as they fit.
+// Each function takes the cursor at which it is to write and gives the one after.
+ghost use Prim.Native.Nat.{ℕ};
+ghost use Rattle.model.specs.Code.{le, signed, each};
+ghost use Rattle.model.specs.Model.{layThree, layDecimal, layNest, layValue, layValues};
+ghost use Rattle.model.specs.Read.{decimalOf, integerOf, indexOf, valueOf, threeOf, nestOf};
+ghost use Rattle.nodes.specs.Access.{elements};
+ghost use Rattle.arrays.specs.Fits.{Pair, Coordinate, Index, Value, Elements, Triple, Leaves};
+ghost use Rattle.arrays.specs.Says.{Holds, Wrote};
+use numerals::Numeral;
+
+// A transform number: its pair.
+fn pair(text: &[u8], table: &[u32], i: usize, sheet: &mut [u8], at: usize) -> usize
+    requires { ⌜ Holds Pair (now text) (now table) i ⌝ }
+    ensures { λ r. ⌜ Wrote (λ v. layDecimal (decimalOf v)) (now (text .entry)) (now (table .entry)) i (now (sheet .entry)) (now (sheet .exit)) at r ⌝ }
+{
+    let answer = numerals::pair(text, nodes::start(table, i), nodes::end(table, i));
+    let Numeral::Pair(m, e) = answer else {
+        return at;
+    };
+    let middle = writer::put8(sheet, at, writer::bits(m));
+    writer::put2(sheet, middle, writer::bits(e))
+}
+
+// `scale` or `translate`: three pairs.
+pub fn pairs(text: &[u8], table: &[u32], i: usize, sheet: &mut [u8], at: usize) -> usize
+    requires { ⌜ Holds (Triple Pair) (now text) (now table) i ⌝ }
+    ensures { λ r. ⌜ Wrote (λ v. layThree layDecimal (threeOf decimalOf v)) (now (text .entry)) (now (table .entry)) i (now (sheet .entry)) (now (sheet .exit)) at r ⌝ }
+{
+    if !nodes::is_array(text, table, i) {
+        return at;
+    }
+    let n = nodes::next(table, i);
+    let mut o = at;
+    let mut k = i + 3;
+    while k < n {
+        o = pair(text, table, k, sheet, o);
+        k = nodes::next(table, k);
+    }
+    o
+}
+
+// A coordinate in four bytes.
+fn coordinate(text: &[u8], table: &[u32], i: usize, sheet: &mut [u8], at: usize) -> usize
+    requires { ⌜ Holds Coordinate (now text) (now table) i ⌝ }
+    ensures { λ r. ⌜ Wrote (λ v. signed 4 (integerOf v)) (now (text .entry)) (now (table .entry)) i (now (sheet .entry)) (now (sheet .exit)) at r ⌝ }
+{
+    let z = numerals::small(text, nodes::start(table, i), nodes::end(table, i));
+    writer::put4(sheet, at, writer::bits(z))
+}
+
+// A vertex: three coordinates.
+fn vertex(text: &[u8], table: &[u32], i: usize, sheet: &mut [u8], at: usize) -> usize
+    requires { ⌜ Holds (Triple Coordinate) (now text) (now table) i ⌝ }
+    ensures { λ r. ⌜ Wrote (λ v. layThree (signed 4) (threeOf integerOf v)) (now (text .entry)) (now (table .entry)) i (now (sheet .entry)) (now (sheet .exit)) at r ⌝ }
+{
+    if !nodes::is_array(text, table, i) {
+        return at;
+    }
+    let n = nodes::next(table, i);
+    let mut o = at;
+    let mut k = i + 3;
+    while k < n {
+        o = coordinate(text, table, k, sheet, o);
+        k = nodes::next(table, k);
+    }
+    o
+}
+
+// The vertices, one after the other.
+pub fn vertices(text: &[u8], table: &[u32], i: usize, sheet: &mut [u8], at: usize) -> usize
+    requires { ⌜ Holds (Elements (Triple Coordinate)) (now text) (now table) i ⌝ }
+    ensures { λ r. ⌜ Wrote (λ v. each (λ w. layThree (signed 4) (threeOf integerOf w)) (elements v)) (now (text .entry)) (now (table .entry)) i (now (sheet .entry)) (now (sheet .exit)) at r ⌝ }
+{
+    if !nodes::is_array(text, table, i) {
+        return at;
+    }
+    let n = nodes::next(table, i);
+    let mut o = at;
+    let mut k = i + 3;
+    while k < n {
+        o = vertex(text, table, k, sheet, o);
+        k = nodes::next(table, k);
+    }
+    o
+}
+
+// An index in four bytes.
+fn index(text: &[u8], table: &[u32], i: usize, sheet: &mut [u8], at: usize) -> usize
+    requires { ⌜ Holds Index (now text) (now table) i ⌝ }
+    ensures { λ r. ⌜ Wrote (λ v. le 4 (indexOf v)) (now (text .entry)) (now (table .entry)) i (now (sheet .entry)) (now (sheet .exit)) at r ⌝ }
+{
+    let w = numerals::integer(text, nodes::start(table, i), nodes::end(table, i));
+    writer::put4(sheet, at, w.magnitude)
+}
+
+// A boundary of that depth: each array as its count and its elements.
+pub fn boundary(
+    text: &[u8],
+    table: &[u32],
+    i: usize,
+    depth: usize,
+    sheet: &mut [u8],
+    at: usize,
+) -> usize
+    requires { ⌜ Holds (Leaves Index depth) (now text) (now table) i ⌝ }
+    ensures { λ r. ⌜ Wrote (λ v. layNest depth (nestOf indexOf depth v)) (now (text .entry)) (now (table .entry)) i (now (sheet .entry)) (now (sheet .exit)) at r ⌝ }
+{
+    if depth == 0 {
+        return index(text, table, i, sheet, at);
+    }
+    let count = nodes::count(text, table, i);
+    let first = writer::put4(sheet, at, count as u64);
+    if !nodes::is_array(text, table, i) {
+        return first;
+    }
+    let n = nodes::next(table, i);
+    let mut o = first;
+    let mut k = i + 3;
+    while k < n {
+        o = boundary(text, table, k, depth - 1, sheet, o);
+        k = nodes::next(table, k);
+    }
+    o
+}
+
+// A semantic value in four bytes: FFFFFFFF hexadecimal for null.
+fn value(text: &[u8], table: &[u32], i: usize, sheet: &mut [u8], at: usize) -> usize
+    requires { ⌜ Holds Value (now text) (now table) i ⌝ }
+    ensures { λ r. ⌜ Wrote (λ v. layValue (valueOf v)) (now (text .entry)) (now (table .entry)) i (now (sheet .entry)) (now (sheet .exit)) at r ⌝ }
+{
+    if nodes::is_null(text, table, i) {
+        return writer::put4(sheet, at, 0xffff_ffff);
+    }
+    index(text, table, i, sheet, at)
+}
+
+// Values of that depth, one after the other.
+pub fn values(
+    text: &[u8],
+    table: &[u32],
+    i: usize,
+    depth: usize,
+    sheet: &mut [u8],
+    at: usize,
+) -> usize
+    requires { ⌜ Holds (Leaves Value depth) (now text) (now table) i ⌝ }
+    ensures { λ r. ⌜ Wrote (λ v. layValues depth (nestOf valueOf depth v)) (now (text .entry)) (now (table .entry)) i (now (sheet .entry)) (now (sheet .exit)) at r ⌝ }
+{
+    if depth == 0 {
+        return value(text, table, i, sheet, at);
+    }
+    if !nodes::is_array(text, table, i) {
+        return at;
+    }
+    let n = nodes::next(table, i);
+    let mut o = at;
+    let mut k = i + 3;
+    while k < n {
+        o = values(text, table, k, depth - 1, sheet, o);
+        k = nodes::next(table, k);
+    }
+    o
+}

@@ -1,0 +1,131 @@
+-- The numbers of linked objects, from what the code's tests and callees say. Assumes nothing.
+use Prim.Native.Nat.{ℕ, suc, _+_, _-_, _≤_, _<_}
+use native.Mathlib.Omega.{arith}
+use native.Mathlib.Numerals.{add-one}
+use mathlib.Core.Path.{_≡_, sym, ap, _∙_}
+use mathlib.Core.Bool.{Bool, true, false, cond, not}
+use mathlib.Core.List.{List}
+use lib.ListN.{length, getD, drop, drop-of-length-le}
+use lib.Seq.{drop-cons}
+use Rattle.utf8.specs.Utf8.{same}
+use Rattle.json.specs.Tree.{Json}
+use Rattle.nodes.specs.Access.{Member, isArrayValue, nameOf, textOf}
+use Rattle.nodes.specs.Laws.{rawOf, string-at, text-at}
+use Rattle.nodes.specs.Parts.{textAt}
+use Rattle.nodes.specs.Says.{Sought, Gives}
+use Rattle.nodes.specs.declared.Found.{Found}
+use Rattle.nodes.specs.declared.Found.the-variants.{At, Nothing}
+use Rattle.links.specs.Says.{TextNode, Offsets, Objects}
+use Rattle.links.proofs.Rules.{object-node, name-text}
+use Rattle.model.specs.Code.{le}
+use Rattle.model.specs.Model.{numberOf}
+use Rattle.writer.specs.Writes.{Writes, Closes}
+use Rattle.arrays.specs.Fits.{Elements}
+use Rattle.arrays.specs.Says.{Holds}
+use Rattle.arrays.specs.Laws.{Laying, laying-start, laying-item, laying-room, laying-less, laying-turn}
+use Rattle.records.specs.Fits.{Text}
+use Rattle.records.specs.Bytes.{numbersIn, namesOf}
+use Rattle.records.specs.Says.{Numbers, NumbersWrote, LinksWrote}
+use Rattle.records.proofs.Nodes.{laying-same, each-none, each-other, each-done, closed-found, found-onward}
+
+-- ---- the number of one object
+
+-- the number among the members from the k-th on
+number-cons : (u : List ℕ) (ms : List Member) (k : ℕ) (d : Member) → k < length ms → numberOf (namesOf (drop k ms)) u ≡ cond (same (nameOf (getD ms k d)) u) 0 (suc (numberOf (namesOf (drop (k + 1) ms)) u))
+unfolding numberOf namesOf
+number-cons u ms k d h = rw (add-one, drop-cons ms k d)
+
+-- A search for the number of the object with the text at the node i has come to the k-th
+pub record Numbering (x t offsets : List ℕ) (count i k : ℕ) : Type 0 where
+  pub some : Objects x t offsets count
+  pub left : (ms : List Member) → Offsets x t ms offsets count → k + numberOf (namesOf (drop k ms)) (textAt x t i) ≡ numberOf (namesOf ms) (textAt x t i)
+
+module _ {x t offsets : List ℕ} {count i : ℕ} where
+  pub number-begin : Objects x t offsets count → Numbering x t offsets count i 0
+  number-begin s = record { some = s; left = λ ms o. omega arith }
+
+  module _ {k : ℕ} {b : Bool} (s : Numbering x t offsets count i k) (l : k < count) (q : b ≡ same (textAt x t (getD offsets k 0)) (textAt x t i)) where
+    -- b tells whether the k-th is it
+    told : (ms : List Member) → Offsets x t ms offsets count → k + cond b 0 (suc (numberOf (namesOf (drop (k + 1) ms)) (textAt x t i))) ≡ numberOf (namesOf ms) (textAt x t i)
+    told ms o =
+        let d = object-node (s .some) l .it in
+        let e : b ≡ same (nameOf (getD ms k d)) (textAt x t i) = rw (name-text (o .each k d l)) q in
+        rw e (ap (λ n. k + n) (sym (number-cons (textAt x t i) ms k d (omega (arith, o .all))))) ∙ s .left ms o
+
+    pub number-found : b ≡ true → Numbers x t offsets count i k
+    number-found h = record { is = λ ms o. omega (arith, rw h at (told ms o)) }
+
+    pub number-again : b ≡ false → Numbering x t offsets count i (k + 1)
+    number-again h = record { some = s .some; left = λ ms o. omega (arith, rw h at (told ms o)) }
+
+  pub number-done : {k : ℕ} → Numbering x t offsets count i k → count ≤ k → Numbers x t offsets count i k
+  unfolding numberOf namesOf
+  number-done {k} s h = record {
+    is = λ ms o. omega (arith, rw (drop-of-length-le ms {i = k} (omega (arith, o .all))) at (s .left ms o));
+  }
+
+-- ---- the numbers of a list
+
+-- a string stands at the node
+pub text-there : {x t : List ℕ} {i : ℕ} → Holds Text x t i → TextNode x t i
+unfolding Text
+text-there h = record { raw = rawOf (h .node .value); string = string-at (h .node .stands) (h .holds _ (h .node .stands)) }
+
+-- the bytes of the number of the object that a string names
+unfoldable pub numbered : List Member → Json → List ℕ
+numbered ms s = le 4 (numberOf (namesOf ms) (textOf s))
+
+-- What the loop over the list at the node i knows at the node k
+pub record Listing (x t offsets : List ℕ) (count i n k : ℕ) (d₀ d : List ℕ) (to at : ℕ) : Type 0 where
+  pub some : Objects x t offsets count
+  pub laying : (ms : List Member) → Offsets x t ms offsets count → Laying Text (numbered ms) x t i n k d₀ d to at
+
+module _ {x t offsets : List ℕ} {count i n : ℕ} where
+  pub listing-start : {b : Bool} {d : List ℕ} {to : ℕ} → Objects x t offsets count → Holds (Elements Text) x t i → Gives isArrayValue x t i b → not b ≡ false → n ≡ getD t (i + 2) 0 → Listing x t offsets count i n (i + 3) d d to to
+  listing-start o h g e q = record { some = o; laying = λ ms s. laying-start h g e q }
+
+  module _ {k : ℕ} {d₀ d : List ℕ} {to at : ℕ} (p : Listing x t offsets count i n k d₀ d to at) where
+    here : Laying Text (numbered (p .some .members)) x t i n k d₀ d to at
+    here = p .laying (p .some .members) (p .some .stand)
+
+    pub listing-same : length d ≡ length d₀
+    listing-same = laying-same here
+
+    module _ (l : k < n) where
+      pub listing-text : TextNode x t k
+      listing-text = text-there (laying-item here l)
+
+      pub listing-room : k + 2 < length t
+      listing-room = laying-room here l
+
+      pub listing-less : {m : ℕ} → m ≡ getD t (k + 2) 0 → n - m < n - k
+      listing-less q = laying-less here l q
+
+      pub listing-turn : {m other : ℕ} {d′ : List ℕ} {r : ℕ} → Numbers x t offsets count k other → Writes (le 4 other) d d′ at r → m ≡ getD t (k + 2) 0 → Listing x t offsets count i n m d₀ d′ to r
+      unfolding numbered Text textAt
+      listing-turn a w q = record {
+        some = p .some;
+        laying = λ ms o.
+            let h = laying-item here l in
+            laying-turn (p .laying ms o) l (record { is = λ v s. rw (text-at s (h .holds v s), ← a .is ms o) w }) q;
+      }
+
+    pub numbers-done : {found : Found} → found ≡ At i → n ≤ k → NumbersWrote x t offsets count found d₀ d to at
+    unfolding numbersIn numbered
+    numbers-done e h = record { is = λ ms o. each-done _ e (p .laying ms o) h }
+
+module _ {x t offsets : List ℕ} {count : ℕ} {found : Found} {d : List ℕ} {to : ℕ} where
+  pub numbers-none : found ≡ Nothing → NumbersWrote x t offsets count found d d to to
+  unfolding numbersIn
+  numbers-none e = record { is = λ ms o. each-none _ e }
+
+  pub numbers-other : {i : ℕ} {b : Bool} → found ≡ At i → Gives isArrayValue x t i b → not b ≡ true → NumbersWrote x t offsets count found d d to to
+  unfolding numbersIn
+  numbers-other e g h = record { is = λ ms o. each-other _ e g h }
+
+pub numbers-onward : {x t offsets : List ℕ} {count : ℕ} {found : Found} {d₀ d : List ℕ} {to r : ℕ} → Objects x t offsets count → Sought x t found → NumbersWrote x t offsets count found d₀ d to r → to ≤ r
+numbers-onward o s w = found-onward s (w .is (o .members) (o .stand))
+
+-- their record
+pub links-wrote : {x t offsets : List ℕ} {count : ℕ} {found : Found} {kind : ℕ} {d₀ d d′ : List ℕ} {at body end : ℕ} → NumbersWrote x t offsets count found d₀ d body end → Closes kind at body end d d′ → LinksWrote x t offsets count found kind d₀ d′ at end
+links-wrote w c = record { is = λ ms o. closed-found (w .is ms o) c }

@@ -1,0 +1,6 @@
+-- The records of a sheet, written from the node table of an accepted text.
+pub mod Fits
+pub mod Bytes
+pub mod Parts
+pub mod Says
+pub mod Accepted

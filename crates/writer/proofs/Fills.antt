@@ -1,0 +1,88 @@
+-- What the stores of the functions leave: zeroes, numbers, strings. Assumes nothing.
+use mathlib.Core.Path.{_≡_, refl, sym, ap, _∙_}
+use mathlib.Core.List.{List, _++_, append-nil}
+use Prim.Native.Nat.{ℕ, _+_, _*_, _/_, _%_, _^_, _≤_, _<_}
+use native.Mathlib.Omega.{arith}
+use native.Mathlib.Numerals.{add-one}
+use lib.ListN.{length, drop, set, replicate, length-set}
+use lib.Seq.{sets-eq, drop-length}
+use borrow.Author.Fill.{fill-more}
+use Rattle.model.specs.Code.{le}
+use Rattle.model.specs.Weigh.{length-le}
+use Rattle.strings.specs.Spans.{Span, decodeAt, Copied}
+use Rattle.strings.specs.Laws.{decodeAt-short}
+use Rattle.writer.specs.Writes.{Writes, Skips}
+use Rattle.writer.specs.Laws.{le-split, then, as-bytes}
+
+-- ---- zeroes
+
+-- the bytes of d₀ before i were set to 0
+pub record Cleared (d₀ d : List ℕ) (i : ℕ) : Type 0 where
+  pub within : i ≤ length d₀
+  pub room : length d ≡ length d₀
+  pub zeroes : d ≡ replicate i 0 ++ drop i d₀
+
+pub cleared-start : (d : List ℕ) → Cleared d d 0
+cleared-start d = record { within = omega arith; room = refl; zeroes = refl }
+
+pub cleared-turn : {d₀ d : List ℕ} {i : ℕ} → Cleared d₀ d i → i < length d → Cleared d₀ (set d i 0) (i + 1)
+cleared-turn {d₀} {d} {i} c h = record {
+  within = omega (arith, c .room);
+  room = length-set d i 0 ∙ c .room;
+  zeroes = ap (λ l. set l i 0) (c .zeroes) ∙ fill-more i 0 d₀ (omega (arith, c .room));
+}
+
+pub cleared-all : {d₀ d : List ℕ} {i : ℕ} → Cleared d₀ d i → length d ≤ i → d ≡ replicate (length d₀) 0
+cleared-all {d₀} {d} {i} c h =
+    let e : i ≡ length d₀ = omega (arith, c .room, c .within) in
+    c .zeroes ∙ ap (λ k. replicate k 0 ++ drop k d₀) e ∙ rw drop-length (append-nil (replicate (length d₀) 0))
+
+-- ---- bytes
+
+pub size-le : (w n : ℕ) → w ≡ length (le w n)
+size-le w n = sym (length-le w n)
+
+-- they do not fit
+pub no-room : {ws d : List ℕ} {n at end : ℕ} → n ≡ length ws → Skips n at end → length d < end → Writes ws d d at end
+no-room e s h = record {
+  ends = omega (arith, s .ends);
+  onward = s .onward;
+  room = refl;
+  wrote = λ fits low. absurd (omega (arith, s .ends));
+}
+
+-- two bytes
+pub second : (d : List ℕ) (v at end : ℕ) → Skips 2 at end → end ≤ length d → length d * 1 < 2 ^ 63 → at + 1 < length (set d at v)
+second d v at end s h l = simp length-set (omega (arith, s .ends))
+
+pub put-two : (d : List ℕ) (n at end : ℕ) → Skips 2 at end → Writes (le 2 n) d (set (set d at (n % 256)) (at + 1) (n / 256 % 256)) at end
+unfolding le
+put-two d n at end s = record {
+  ends = s .ends;
+  onward = s .onward;
+  room = simp length-set;
+  wrote = λ fits low. rw add-one;
+}
+
+-- a number by its halves
+module _ (n : ℕ) {at q r : ℕ} {d d₁ d₂ : List ℕ} where
+  joined : (v w : ℕ) → Writes (le v n) d d₁ at q → Writes (le w (n / 256 ^ v)) d₁ d₂ q r → Writes (le (v + w) n) d d₂ at r
+  joined v w f g = as-bytes (sym (le-split v w n)) (then f g)
+
+  pub put-four : Writes (le 2 n) d d₁ at q → Writes (le 2 (n / 65536)) d₁ d₂ q r → Writes (le 4 n) d d₂ at r
+  put-four = joined 2 2
+
+  pub put-eight : Writes (le 4 n) d d₁ at q → Writes (le 4 (n / 0x1_0000_0000)) d₁ d₂ q r → Writes (le 8 n) d d₂ at r
+  put-eight = joined 4 4
+
+-- a string
+pub copied : {ws d₀ d : List ℕ} {at r : ℕ} → Copied ws d₀ d at r → length d ≡ length d₀ → Writes ws d₀ d at r
+copied c k = record {
+  ends = omega (arith, c .answer);
+  onward = omega (arith, c .answer);
+  room = k;
+  wrote = λ fits low. c .contents ∙ sym (sets-eq _ _ _ fits);
+}
+
+pub short : (x : List ℕ) (from to n : ℕ) → Span x from to → length x * 1 < 2 ^ 63 → n ≡ length (decodeAt x from to) → n < 2 ^ 63
+short x from to n s l e = omega (arith, decodeAt-short x from to (s .high))
