@@ -1,20 +1,28 @@
--- How large the numbers of a verdict are. Assumes nothing.
-use Prim.Native.Nat.{ℕ, _≤_, _<_}
+-- How large the numbers of an answer are. Assumes nothing.
+use Prim.Native.Nat.{ℕ, _^_, _≤_, _<_}
 use native.Mathlib.Omega.{arith}
 use native.Mathlib.Decide.{decLt}
-use mathlib.Core.Path.{_≡_, sym, ap, _∙_}
+use mathlib.Core.Path.{_≡_, refl, sym, ap, _∙_}
+use mathlib.Core.Bool.{Bool, true, false, cond}
 use mathlib.Core.List.{List}
 use mathlib.Core.Logic.{inl, inr}
 use lib.ListN.{length}
+use lib.Dec.{leb}
 use Rattle.grammar.specs.Theorems.{stops}
-use Rattle.verdict.specs.Verdict.{accepted, refused, verdict}
+use Rattle.verdict.specs.Verdict.{Verdict, accepted, refused, verdict}
 use Rattle.verdict.specs.Exact.{Breaks, too-long, not-utf8, not-json, too-deep, in-tree, refused-least, accepted-clean, verdict-long}
+use Rattle.sheets.specs.Laid.{sheetOfText, fitted, answer}
+use Rattle.sheets.specs.Laid as laid
+use Rattle.sheets.specs.Answers.{of-laid}
+use Rattle.sheets.specs.Theorems.{sizes}
+use Rattle.kebrawish.specs.declared.Answer as laid-answer
+use Rattle.kebrawish.specs.declared.Answer.the-variants as answers
 use Rattle.kebrawish.specs.declared.Broken.{Broken}
 use Rattle.kebrawish.specs.declared.Broken.the-variants as broken
 use Rattle.kebrawish.specs.declared.Refusal.{Refusal}
 use Rattle.kebrawish.specs.declared.Verdict.{Verdict as Answer}
 use Rattle.kebrawish.specs.declared.Verdict.the-variants.{Accepted, Refused}
-use Rattle.kebrawish.specs.Answers.{numberOf, told}
+use Rattle.kebrawish.specs.Answers.{numberOf, told, answered}
 use Rattle.kebrawish.proofs.Least.{few-clean}
 
 inside : (x : List ℕ) → length x ≤ 65535 → {r p : ℕ} → Breaks x r p → p ≤ 65535
@@ -66,3 +74,31 @@ of-accepted x h e = sym h ∙ ap told e
 pub of-refused : (x : List ℕ) {r : Answer} {s : Refusal} → told r ≡ verdict x → r ≡ Refused s → verdict x ≡ refused (numberOf (s .rule)) (s .place)
 unfolding told
 of-refused x h e = sym h ∙ ap told e
+
+-- ---- what lay answered
+
+module _ (x : List ℕ) (room : ℕ) {r : laid-answer.Answer} (h : answered r ≡ answer x room) where
+  pub of-laid-answer : {size objects : ℕ} → r ≡ answers.Laid size objects → answer x room ≡ laid.laid size objects
+  unfolding answered
+  of-laid-answer e = sym h ∙ ap answered e
+
+  pub of-refused-answer : {s : Refusal} → r ≡ answers.Refused s → answer x room ≡ laid.refused (numberOf (s .rule)) (s .place)
+  unfolding answered
+  of-refused-answer e = sym h ∙ ap answered e
+
+-- its length is below 2^32, and it counts at most 1,024 objects
+pub laid-small : (x : List ℕ) (room size objects : ℕ) → answer x room ≡ laid.laid size objects → (size < 2 ^ 32) × (objects ≤ 1024)
+laid-small x room size objects e = (sizes x room size objects e .2, count-small x objects (of-laid x room size objects e .accepted))
+
+-- the place of a refusal is below 65,536
+pub refused-small : (x : List ℕ) (room r p : ℕ) → answer x room ≡ laid.refused r p → p ≤ 65535
+unfolding answer fitted
+refused-small x room r p e = by (verdict x) refl e
+  where
+    if : (b : Bool) (size n : ℕ) → cond b (laid.laid size n) (laid.refused 18 0) ≡ laid.refused r p → p ≤ 65535
+    if true size n d = let z : _≡_ {A = ℕ} 0 1 = cc in absurd (omega arith)
+    if false size n d = let z : 0 ≡ p = cc in omega arith
+
+    by : (v : Verdict) → verdict x ≡ v → fitted x room v ≡ laid.refused r p → p ≤ 65535
+    by (accepted n) q d = if (leb (length (sheetOfText x)) room) (length (sheetOfText x)) n d
+    by (refused s o) q d = let z : o ≡ p = cc in omega (arith, place-small x s o q)

@@ -2,7 +2,7 @@
 use mathlib.Core.Path.{_≡_}
 use mathlib.Core.List.{List}
 use Prim.Native.Nat.{ℕ, _+_, _*_, _^_, _≤_}
-use lib.ListN.{length}
+use lib.ListN.{length, replicate}
 use Rattle.json.specs.Tree.{Json}
 use Rattle.json.specs.Machine.{read, reads}
 use Rattle.json.specs.Table.{Sub, size}
@@ -11,6 +11,9 @@ use Rattle.fields.specs.Fields.{objectsOf}
 use Rattle.fields.specs.Says.{Indexed}
 use Rattle.schema.specs.declared.Walked.{Walked}
 use Rattle.verdict.specs.Verdict as verdict
+use Rattle.sheets.specs.Laid as laid
+use Rattle.kebrawish.specs.declared.Answer.{Answer}
+use Rattle.kebrawish.specs.declared.Answer.the-variants as answers
 use Rattle.kebrawish.specs.declared.Broken.{Broken}
 use Rattle.kebrawish.specs.declared.Broken.the-variants as broken
 use Rattle.kebrawish.specs.declared.Refusal.{Refusal}
@@ -55,6 +58,26 @@ told (Refused f) = refusal f
 unfoldable pub word : verdict.Verdict → ℕ
 word (verdict.accepted n) = n * 2 ^ 32
 word (verdict.refused rule place) = rule * 2 ^ 56 + place
+
+-- what lay answers, as the answer that it is
+unfoldable pub answered : Answer → laid.Answer
+unfolding numberOf
+answered (answers.Laid size objects) = laid.laid size objects
+answered (answers.Refused f) = laid.refused (numberOf (f .rule)) (f .place)
+
+-- and in one word: bits 56 to 63 the rule's number, 0 for acceptance; bits 0 to 31 the place of a refusal, or the sheet's length; bits 32 to 55 the object count
+unfoldable pub laidWord : laid.Answer → ℕ
+laidWord (laid.laid size objects) = objects * 2 ^ 32 + size
+laidWord (laid.refused rule place) = rule * 2 ^ 56 + place
+
+-- the sheet d is all zeroes
+unfoldable pub Zeroes : List ℕ → Type 0
+Zeroes d = d ≡ replicate (length d) 0
+
+-- the text x, of that verdict, was laid in a sheet of zeroes d₀: a is the answer, and d is the sheet afterwards
+pub record Lays (x : List ℕ) (v : verdict.Verdict) (d₀ d : List ℕ) (a : laid.Answer) : Type 0 where
+  pub gives : a ≡ laid.fitted x (length d₀) v
+  pub leaves : d ≡ laid.filled x (length d₀) a
 
 -- the first n words of the table t are those of the tree that the text x, which is not too long, is read as
 pub record Stands (x t : List ℕ) (n : ℕ) : Type 0 where

@@ -1,11 +1,12 @@
-// Judges a CityJSON text by the rules of document 01.
+// Judges a CityJSON text by the rules of document 01, and lays it out as a sheet of records.
 ghost use Prim.Native.Nat.{_+_, _*_, _^_, _/_, _%_, _≤_, _<_};
 ghost use mathlib.Core.Path.{_≡_};
 ghost use lib.ListN.{length};
 ghost use Rattle.nodes.specs.Faults.{none, ruleOf, placeIn};
 ghost use Rattle.verdict.specs.Verdict.{refused, parsed, verdict};
 ghost use Rattle.json.specs.Machine.{read};
-ghost use Rattle.kebrawish.specs.Answers.{numberOf, refusal, told, word, Screens, Stands, Opens, Examined};
+ghost use Rattle.sheets.specs.Laid.{answer, roomAfter};
+ghost use Rattle.kebrawish.specs.Answers.{answered, laidWord, Zeroes, Lays, numberOf, refusal, told, word, Screens, Stands, Opens, Examined};
 use json::Parsed;
 use schema::Walked;
 
@@ -40,6 +41,12 @@ pub struct Refusal {
 // What judge answers: the number of city objects, or a refusal.
 pub enum Verdict {
     Accepted(usize),
+    Refused(Refusal),
+}
+
+// What lay answers: the sheet's length and the number of city objects, or a refusal.
+pub enum Answer {
+    Laid(usize, usize),
     Refused(Refusal),
 }
 
@@ -195,6 +202,55 @@ pub fn judge(text: &[u8]) -> Verdict
     }
 }
 
+// Lays out a text whose tree's words are the first n of the table, in a sheet of zeroes.
+fn lay_table(text: &[u8], table: &[u32], n: usize, sheet: &mut [u8]) -> Answer
+    requires { ⌜ (Stands (now text) (now table) n) × (Zeroes (now sheet)) ⌝ }
+    ensures { λ r. ⌜ Lays (now (text .entry)) (parsed (read (now (text .entry)))) (now (sheet .entry)) (now (sheet .exit)) (answered r) ⌝ }
+{
+    let walked = examine(text, table, n);
+    let least = walked.least;
+    if least < 1179648 {
+        return Answer::Refused(refuse_fault(least));
+    }
+    let index = walked.index;
+    let size = records::sheet(text, table, index, sheet);
+    if size > sheet.len() {
+        writer::clear(sheet);
+        return Answer::Refused(Refusal {
+            rule: Broken::NoRoom,
+            place: 0,
+        });
+    }
+    Answer::Laid(size, index.count)
+}
+
+// Lays out a text that is not too long, in a sheet of zeroes.
+fn lay_json(text: &[u8], sheet: &mut [u8]) -> Answer
+    requires { ⌜ (length (now text) ≤ 65535) × (Zeroes (now sheet)) ⌝ }
+    ensures { λ r. ⌜ Lays (now (text .entry)) (parsed (read (now (text .entry)))) (now (sheet .entry)) (now (sheet .exit)) (answered r) ⌝ }
+{
+    let mut space: [u32; 98352] = [0; 98352];
+    let table: &mut [u32] = &mut space;
+    let opened = open(text, table);
+    match opened {
+        Opened::Tree(n) => lay_table(text, table, n, sheet),
+        Opened::Refused(refusal) => Answer::Refused(refusal),
+    }
+}
+
+// Lays out a text in the lent sheet: the sheet's length and the number of city objects, and the sheet with zeroes after it; or a refusal as judge gives it, 18 if the sheet is longer than the room, and zeroes throughout.
+pub fn lay(text: &[u8], sheet: &mut [u8]) -> Answer
+    ensures { λ r. ⌜ answered r ≡ answer (now (text .entry)) (length (now (sheet .entry))) ⌝ }
+    ensures { λ r. ⌜ now (sheet .exit) ≡ roomAfter (now (text .entry)) (length (now (sheet .entry))) ⌝ }
+{
+    writer::clear(sheet);
+    let screened = screen(text);
+    match screened {
+        Screened::Passed => lay_json(text, sheet),
+        Screened::Refused(refusal) => Answer::Refused(refusal),
+    }
+}
+
 // The paper's number of a rule.
 pub fn number_of(rule: Broken) -> u32
     ensures { λ r. ⌜ r ≡ numberOf rule ⌝ }
@@ -238,6 +294,22 @@ pub extern "C" fn kebrawish_judge(text: &[u8]) -> u64
     match answer {
         Verdict::Accepted(n) => n as u64 * 0x1_0000_0000,
         Verdict::Refused(refusal) => {
+            let rule = refusal.rule;
+            packed(number_of(rule), refusal.place)
+        }
+    }
+}
+
+// Lays out a text in the lent sheet, and answers in one word.
+#[no_mangle]
+pub extern "C" fn kebrawish_lay(text: &[u8], sheet: &mut [u8]) -> u64
+    ensures { λ r. ⌜ r ≡ laidWord (answer (now (text .entry)) (length (now (sheet .entry)))) ⌝ }
+    ensures { λ r. ⌜ now (sheet .exit) ≡ roomAfter (now (text .entry)) (length (now (sheet .entry))) ⌝ }
+{
+    let answer = lay(text, sheet);
+    match answer {
+        Answer::Laid(size, objects) => objects as u64 * 0x1_0000_0000 + size as u64,
+        Answer::Refused(refusal) => {
             let rule = refusal.rule;
             packed(number_of(rule), refusal.place)
         }

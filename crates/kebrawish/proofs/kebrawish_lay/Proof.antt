@@ -1,0 +1,29 @@
+-- `kebrawish::kebrawish_lay` meets its contract. Assumes nothing.
+use mathlib.Core.Path.{sym, ap, _∙_}
+use native.Mathlib.Omega.{arith}
+use Prim.Native.Nat.{ℕ, _*_, _+_, _^_}
+use Rattle.kebrawish.specs.Answers.{word, laidWord, numberOf}
+use Rattle.kebrawish.proofs.Bounds.{number-small, of-laid-answer, of-refused-answer, laid-small, refused-small}
+use Rattle.kebrawish.proofs.Rules.{judges}
+use Rattle.kebrawish.proofs.kebrawish_lay.Statement.{statement}
+use Rattle.kebrawish.proofs.kebrawish_lay.Tie as tie
+
+mul-result : tie.Need-mul-result
+mul-result c = let s = laid-small _ _ _ _ (of-laid-answer _ _ (c .before .before .before .before .before .lay .ensures .0) (c .before .answer .given .1)) in omega (arith, s .1)
+
+add-result : tie.Need-add-result
+add-result c = let s = laid-small _ _ _ _ (of-laid-answer _ _ (c .before .before .before .before .before .lay .ensures .0) (c .before .answer .given .1)) in omega (arith, s .0, s .1)
+
+packed-requires : tie.Need-packed-requires
+packed-requires c κs = (omega (arith, (c .number-of .ensures), number-small (c .before .before .answer2 .given .0 .0 .rule)), omega (arith, refused-small _ _ _ _ (of-refused-answer _ _ (c .before .before .before .before .before .before .lay .ensures .0) (c .before .before .answer2 .given .1))))
+
+returns : tie.Need-returns
+unfolding laidWord
+returns c = (sym (ap laidWord (of-laid-answer _ _ (c .before .before .before .before .before .lay .ensures .0) (c .before .answer .given .1))), (c .before .before .before .before .before .lay .ensures .1))
+
+returns-2 : tie.Need-returns-2
+unfolding laidWord word
+returns-2 c = ((c .packed .ensures) ∙ ap (λ (n : ℕ). n * 2 ^ 56 + (c .before .before .before .answer2 .given .0 .0 .place)) (c .before .number-of .ensures) ∙ sym (ap laidWord (of-refused-answer _ _ (c .before .before .before .before .before .before .before .lay .ensures .0) (c .before .before .before .answer2 .given .1))), (c .before .before .before .before .before .before .before .lay .ensures .1))
+
+pub kebrawish-lay-spec : {M : Type 1} → statement M
+kebrawish-lay-spec = tie.close (tie.spec (λ c κs. search judges) (λ c. search judges) mul-result add-result (λ c. search judges) (λ c κs. search judges) packed-requires (λ c. search judges) returns (λ c. search judges) returns-2)
