@@ -1,12 +1,15 @@
-//! An independent reader of CityJSON 2.0 texts, written from the rules alone, and the
-//! generator of texts for the differential tests.
+//! An independent reader of CityJSON 2.0 texts, written from the rules alone, the generator
+//! of texts for the differential tests, and the comparisons with the library.
 //!
 //! The reader builds a JSON tree on the heap, collects every fault of every rule, and
 //! answers the least one; it shares no code and no method with the library.
 
+pub mod compare;
 pub mod decimal;
 pub mod generate;
 pub mod json;
+#[cfg(feature = "library")]
+pub mod library;
 pub mod model;
 pub mod published;
 pub mod rules;

@@ -10,6 +10,47 @@ use std::path::{Path, PathBuf};
 /// those on which parsers may differ.
 pub const SUITE: [(&str, usize); 3] = [("y_", 95), ("n_", 188), ("i_", 35)];
 
+/// The rule and the place of the files on which parsers may differ. Numbers of any size are
+/// JSON, and the root is an array; an unpaired surrogate escape is rule 5, bytes that are no
+/// UTF-8 are rule 2, and a byte order mark begins no JSON text.
+pub const OPEN_FILES: [(&str, u8, usize); 35] = [
+    ("i_number_double_huge_neg_exp", 7, 0),
+    ("i_number_huge_exp", 7, 0),
+    ("i_number_neg_int_huge_exp", 7, 0),
+    ("i_number_pos_double_huge_exp", 7, 0),
+    ("i_number_real_neg_overflow", 7, 0),
+    ("i_number_real_pos_overflow", 7, 0),
+    ("i_number_real_underflow", 7, 0),
+    ("i_number_too_big_neg_int", 7, 0),
+    ("i_number_too_big_pos_int", 7, 0),
+    ("i_number_very_big_negative_int", 7, 0),
+    ("i_object_key_lone_2nd_surrogate", 5, 2),
+    ("i_string_1st_surrogate_but_2nd_missing", 5, 2),
+    ("i_string_1st_valid_surrogate_2nd_invalid", 5, 2),
+    ("i_string_UTF-16LE_with_BOM", 2, 0),
+    ("i_string_UTF-8_invalid_sequence", 2, 7),
+    ("i_string_UTF8_surrogate_U+D800", 2, 2),
+    ("i_string_incomplete_surrogate_and_escape_valid", 5, 2),
+    ("i_string_incomplete_surrogate_pair", 5, 2),
+    ("i_string_incomplete_surrogates_escape_valid", 5, 2),
+    ("i_string_invalid_lonely_surrogate", 5, 2),
+    ("i_string_invalid_surrogate", 5, 2),
+    ("i_string_invalid_utf-8", 2, 2),
+    ("i_string_inverted_surrogates_U+1D11E", 5, 2),
+    ("i_string_iso_latin_1", 2, 2),
+    ("i_string_lone_second_surrogate", 5, 2),
+    ("i_string_lone_utf8_continuation_byte", 2, 2),
+    ("i_string_not_in_unicode_range", 2, 2),
+    ("i_string_overlong_sequence_2_bytes", 2, 2),
+    ("i_string_overlong_sequence_6_bytes", 2, 2),
+    ("i_string_overlong_sequence_6_bytes_null", 2, 2),
+    ("i_string_truncated-utf-8", 2, 2),
+    ("i_string_utf16BE_no_BOM", 2, 5),
+    ("i_string_utf16LE_no_BOM", 2, 4),
+    ("i_structure_500_nested_arrays", 4, 32),
+    ("i_structure_UTF-8_BOM_empty_object", 3, 0),
+];
+
 /// A published file: its name and its bytes.
 pub struct File {
     pub name: String,

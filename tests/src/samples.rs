@@ -2,7 +2,19 @@
 
 use crate::Verdict;
 
-/// The smallest CityJSON object of the CityJSON 2.0 specification.
+/// The minimal CityJSON object of source document 003, as it is printed there.
+pub const PRINTED_MINIMAL: &str = r#"{
+  "type": "CityJSON",
+  "version": "2.0",
+  "transform": {
+    "scale": [1.0, 1.0, 1.0],
+    "translate": [0.0, 0.0, 0.0]
+  },
+  "CityObjects": {},
+  "vertices": []
+}"#;
+
+/// The same with no white space.
 pub const MINIMAL: &str = concat!(
     r#"{"type":"CityJSON","version":"2.0","#,
     r#""transform":{"scale":[1.0,1.0,1.0],"translate":[0.0,0.0,0.0]},"#,
@@ -47,6 +59,7 @@ pub fn readings() -> Vec<(Vec<u8>, Verdict)> {
         refused(" {}", 8, 1),
         refused("{}", 8, 0),
         refused(&("[".repeat(32) + &"]".repeat(32)), 7, 0),
+        laid(PRINTED_MINIMAL, 78, 0),
         laid(MINIMAL, 78, 0),
         laid(&kiosk(), 133, 1),
     ]

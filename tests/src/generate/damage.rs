@@ -9,22 +9,61 @@ use crate::model::{Model, Object};
 use crate::words;
 use crate::{Refusal, TEXT_LIMIT};
 
-/// A text that breaks the given rule, from 1 to 17, once.
-pub fn damaged(rule: u8, random: &mut Random) -> (Vec<u8>, Refusal) {
+/// A text that breaks the given rule, from 1 to 17, once, and the role of what was damaged,
+/// if that is a value or a name.
+pub fn damaged(rule: u8, random: &mut Random) -> (Vec<u8>, Refusal, Option<Role>) {
     loop {
         let mut model = quarter(random, 6);
+        let bytes = |(text, place)| Some((text, place, None));
         let found = match rule {
-            1 => Some(too_long(&model, random)),
-            2 => Some(not_utf8(&model, random)),
-            3 if random.chance(40) => Some(cut_or_extended(&model, random)),
+            1 => bytes(too_long(&model, random)),
+            2 => bytes(not_utf8(&model, random)),
+            3 if random.chance(40) => bytes(cut_or_extended(&model, random)),
             _ => damaged_text(rule, &mut model, random),
         };
-        let Some((text, place)) = found else {
+        let Some((text, place, role)) = found else {
             continue;
         };
         if text.len() <= TEXT_LIMIT || rule == 1 {
-            return (text, Refusal { rule, place });
+            return (text, Refusal { rule, place }, role);
         }
+    }
+}
+
+/// The roles at which a rule from 7 to 17 is broken, by the places that document 01 gives.
+pub fn targets(rule: u8) -> Vec<Role> {
+    let roles = Role::ALL.into_iter();
+    match rule {
+        7 => roles.filter(|role| wanted_kind(*role).is_some()).collect(),
+        8 => roles
+            .filter(|role| !required_names(*role).is_empty())
+            .collect(),
+        9 => vec![Role::Plain],
+        10 => roles
+            .filter(|role| !wrong_words(*role).is_empty())
+            .collect(),
+        11 => vec![Role::ObjectType, Role::GeometryType],
+        12 => vec![
+            Role::TransformArray,
+            Role::Vertex,
+            Role::BoundaryPart,
+            Role::Index(0),
+            Role::Values,
+            Role::ValuesPart,
+            Role::Value(0),
+            // An element added to a boundary.
+            Role::Plain,
+        ],
+        13 => vec![
+            Role::TransformNumber,
+            Role::Coordinate,
+            Role::Index(0),
+            Role::Value(0),
+        ],
+        14 => vec![Role::GeometryType],
+        15 | 17 => vec![Role::Link],
+        16 => vec![Role::Object],
+        _ => Vec::new(),
     }
 }
 
@@ -154,7 +193,11 @@ fn cut_or_extended(model: &Model, random: &mut Random) -> (Vec<u8>, usize) {
 }
 
 /// Breaks the rule in the model or in its draft, and spells that.
-fn damaged_text(rule: u8, model: &mut Model, random: &mut Random) -> Option<(Vec<u8>, usize)> {
+fn damaged_text(
+    rule: u8,
+    model: &mut Model,
+    random: &mut Random,
+) -> Option<(Vec<u8>, usize, Option<Role>)> {
     let draft = if rule >= 14 {
         let target = damage_model(rule, model, random)?;
         let mut draft = draft(model, 15, random);
@@ -171,7 +214,7 @@ fn damaged_text(rule: u8, model: &mut Model, random: &mut Random) -> Option<(Vec
         Style::random(random)
     };
     let (text, mark) = spell(&draft, style, random);
-    Some((text, mark.expect("a marked damage")))
+    Some((text, mark.expect("a marked damage"), draft.marked()))
 }
 
 /// Breaks a rule from 3 to 13 in a draft; none if the draft has no part for it.

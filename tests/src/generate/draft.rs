@@ -41,6 +41,51 @@ pub enum Role {
     Value(usize),
 }
 
+impl Role {
+    /// Every role; the limits are 0.
+    pub const ALL: [Role; 30] = [
+        Role::Plain,
+        Role::Root,
+        Role::RootType,
+        Role::Version,
+        Role::Transform,
+        Role::TransformArray,
+        Role::TransformNumber,
+        Role::Vertices,
+        Role::Vertex,
+        Role::Coordinate,
+        Role::Objects,
+        Role::Object,
+        Role::ObjectType,
+        Role::Attributes,
+        Role::LinkList,
+        Role::Link,
+        Role::Geometries,
+        Role::Geometry,
+        Role::GeometryType,
+        Role::Lod,
+        Role::Boundary,
+        Role::BoundaryPart,
+        Role::Index(0),
+        Role::Semantics,
+        Role::Surfaces,
+        Role::Surface,
+        Role::SurfaceType,
+        Role::Values,
+        Role::ValuesPart,
+        Role::Value(0),
+    ];
+
+    /// The role without its limit.
+    pub fn kind(self) -> Role {
+        match self {
+            Role::Index(_) => Role::Index(0),
+            Role::Value(_) => Role::Value(0),
+            other => other,
+        }
+    }
+}
+
 /// A value to be spelled. The mark is an offset from the value's first byte.
 #[derive(Clone, Debug)]
 pub struct Draft {
@@ -110,6 +155,21 @@ impl Draft {
         let entries = self.entries()?.iter_mut();
         let mut named = entries.filter(|entry| entry.is_named(name));
         named.next().map(|entry| &mut entry.value)
+    }
+
+    /// The role of the marked value or name, this one or one within.
+    pub fn marked(&self) -> Option<Role> {
+        if self.mark.is_some() {
+            return Some(self.role);
+        }
+        match &self.body {
+            Body::Raw(_) | Body::Text(_) => None,
+            Body::Array(items) => items.iter().find_map(Draft::marked),
+            Body::Object(entries) => {
+                let mut entries = entries.iter();
+                entries.find_map(|entry| entry.name.marked().or_else(|| entry.value.marked()))
+            }
+        }
     }
 
     /// The count of values for which `wanted` holds, this one and those within.

@@ -1,6 +1,7 @@
 //! A seeded generator of texts: city quarters in many spellings, the same with damages,
 //! and pairs of texts with the same model or with models that differ in one detail.
 
+mod coverage;
 mod damage;
 mod draft;
 mod large;
@@ -8,6 +9,9 @@ mod quarter;
 mod random;
 mod spelling;
 
+pub use coverage::Coverage;
+pub use damage::targets;
+pub use draft::Role;
 pub use large::{large_texts, Large};
 pub use random::Random;
 
@@ -23,11 +27,12 @@ pub enum Expected {
     Open,
 }
 
-/// A generated text.
+/// A generated text. `damaged` is what a targeted damage broke.
 #[derive(Clone, Debug)]
 pub struct Case {
     pub text: Vec<u8>,
     pub expected: Expected,
+    pub damaged: Option<Role>,
 }
 
 /// The text of a seed.
@@ -57,10 +62,11 @@ pub fn case(seed: u64) -> Case {
 
 /// A text that breaks the given rule, from 1 to 17, and none lower.
 pub fn refused(rule: u8, random: &mut Random) -> Case {
-    let (text, refusal) = damage::damaged(rule, random);
+    let (text, refusal, damaged) = damage::damaged(rule, random);
     Case {
         text,
         expected: Expected::Refusal(refusal),
+        damaged,
     }
 }
 
@@ -70,6 +76,7 @@ pub fn accepted(random: &mut Random) -> Case {
     Case {
         text,
         expected: Expected::Model(model),
+        damaged: None,
     }
 }
 
@@ -80,6 +87,7 @@ fn at_the_limit(random: &mut Random) -> Case {
     Case {
         text,
         expected: Expected::Model(model),
+        damaged: None,
     }
 }
 
@@ -87,6 +95,7 @@ fn open(text: Vec<u8>) -> Case {
     Case {
         text,
         expected: Expected::Open,
+        damaged: None,
     }
 }
 
