@@ -16,6 +16,10 @@ fn main() {
             .join("../target/staticlib"),
     };
     println!("cargo:rustc-link-search=native={}", folder.display());
+    println!(
+        "cargo:rustc-env=KEBRAWISH_STATICLIB_FOLDER={}",
+        folder.display()
+    );
     println!("cargo:rustc-link-lib=static=kebrawish");
     println!(
         "cargo:rerun-if-changed={}",

@@ -1,0 +1,97 @@
+//! The C header: C programs that include it are compiled, linked with the static library and
+//! run. The calls of lay come with the feature `lay`.
+
+use std::fs;
+use std::io::{self, ErrorKind, Write};
+use std::path::{Path, PathBuf};
+use std::process::Command;
+
+const PACKAGE: &str = env!("CARGO_MANIFEST_DIR");
+
+/// The options under which the header has to pass.
+const STRICT: [&str; 4] = ["-Wall", "-Wextra", "-Werror", "-pedantic"];
+
+fn header() -> PathBuf {
+    Path::new(PACKAGE).join("../include/kebrawish.h")
+}
+
+/// A file in the folder of these tests' output.
+fn output(name: &str) -> PathBuf {
+    Path::new(env!("CARGO_TARGET_TMPDIR")).join(name)
+}
+
+/// A compiler with the options and the header's folder; none if it is not installed.
+fn compile(compiler: &str, standard: &str, rest: &[&Path]) -> Option<()> {
+    let folder = header();
+    let run = Command::new(compiler)
+        .arg(format!("-std={standard}"))
+        .args(STRICT)
+        .arg("-I")
+        .arg(folder.parent().expect("the header's folder"))
+        .args(rest)
+        .output();
+    let run = match run {
+        Err(error) if error.kind() == ErrorKind::NotFound => return None,
+        run => run.expect("the compiler"),
+    };
+    let said = String::from_utf8_lossy(&run.stderr);
+    assert!(run.status.success(), "{compiler}: {said}");
+    Some(())
+}
+
+/// Compiles a C program, links it with the static library and runs it.
+fn run(source: &Path, name: &str) -> std::process::Output {
+    let library = Path::new(env!("KEBRAWISH_STATICLIB_FOLDER")).join("libkebrawish.a");
+    let program = output(name);
+    let define: &Path = if cfg!(feature = "lay") {
+        Path::new("-DKEBRAWISH_LAY")
+    } else {
+        Path::new("-UKEBRAWISH_LAY")
+    };
+    let rest = [define, source, &library, Path::new("-o"), &program];
+    compile("cc", "c99", &rest).expect("a C compiler");
+    Command::new(program).output().expect("the program")
+}
+
+/// The example in the header's comment, in a file of the given name.
+fn example(name: &str) -> PathBuf {
+    let header = fs::read_to_string(header()).expect("the header");
+    let (_, rest) = header.split_once(" * Example:\n *\n").expect("an example");
+    let (example, _) = rest.split_once(" * It prints").expect("its end");
+    let lines = example.lines().map(|line| {
+        let code = line.strip_prefix(" *").expect("a line of the comment");
+        format!("{}\n", code.strip_prefix("     ").unwrap_or(code))
+    });
+    let source = output(name);
+    fs::write(&source, lines.collect::<String>()).expect("the example's file");
+    source
+}
+
+#[test]
+fn a_c_program_calls_the_library() {
+    let source = Path::new(PACKAGE).join("tests/calls.c");
+    let run = run(&source, "calls");
+    assert_eq!(run.status.code(), Some(0), "the number of a wrong answer");
+}
+
+#[test]
+#[cfg(feature = "lay")]
+fn the_example_runs() {
+    let run = run(&example("run.c"), "example");
+    assert_eq!(run.status.code(), Some(0));
+    let line = String::from_utf8_lossy(&run.stdout);
+    assert_eq!(line, "laid 78 bytes, objects 0\n");
+    let header = fs::read_to_string(header()).expect("the header");
+    assert!(header.contains(&format!(" * It prints `{}`.", line.trim_end())));
+}
+
+#[test]
+fn the_example_compiles_as_c_and_as_cpp() {
+    let source = example("checked.c");
+    let check = Path::new("-fsyntax-only");
+    compile("cc", "c99", &[check, &source]).expect("a C compiler");
+    let cpp = [check, Path::new("-x"), Path::new("c++"), &source];
+    if compile("c++", "c++11", &cpp).is_none() {
+        let _ = writeln!(io::stderr(), "not tried: the header in C++ (no c++ here)");
+    }
+}
