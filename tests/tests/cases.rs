@@ -16,6 +16,17 @@ fn lay(text: &[u8], room: usize) -> (Verdict, Vec<u8>) {
     compare::lay(text, room, 0xA5, "a case")
 }
 
+/// The object types in the order of their codes, 1 to 33.
+const OBJECTS: &str = concat!(
+    "Bridge Building CityFurniture CityObjectGroup GenericCityObject LandUse ",
+    "OtherConstruction PlantCover Railway Road SolitaryVegetationObject TINRelief ",
+    "TransportSquare Tunnel WaterBody Waterway BridgePart BridgeInstallation ",
+    "BridgeConstructiveElement BridgeRoom BridgeFurniture BuildingPart ",
+    "BuildingInstallation BuildingConstructiveElement BuildingFurniture BuildingStorey ",
+    "BuildingRoom BuildingUnit TunnelPart TunnelInstallation TunnelConstructiveElement ",
+    "TunnelHollowSpace TunnelFurniture"
+);
+
 /// A text with one CityFurniture that has one geometry, over one vertex.
 fn with_geometry(geometry: &str) -> String {
     let object = format!(r#""a":{{"type":"CityFurniture","geometry":[{geometry}]}}"#);
@@ -259,6 +270,100 @@ fn an_instance_is_examined_by_rules_7_8_and_10() {
     );
 }
 
+/// Rule 7, for each value that document 01 names: `#` stands for it, and its kind is that of
+/// the second text.
+#[test]
+fn kinds() {
+    let root = |name: &str, old: &str| {
+        let new = MINIMAL.replace(&format!("\"{name}\":{old}"), &format!("\"{name}\":#"));
+        assert_ne!(new, MINIMAL);
+        new
+    };
+    let object = |rest: &str| town(&format!(r#""a":{{"type":"Road"{rest}}}"#), "[0,0,0]");
+    let geometry = |text: &str| object(&format!(r#","geometry":[{text}]"#));
+    let point = r#"{"type":"MultiPoint","lod":"1","boundaries":[0]"#;
+    let semantics = |text: &str| geometry(&format!(r#"{point},"semantics":{text}}}"#));
+    let rows = [
+        ("#".to_string(), "{}"),
+        (
+            root(
+                "transform",
+                r#"{"scale":[1.0,1.0,1.0],"translate":[0.0,0.0,0.0]}"#,
+            ),
+            "{}",
+        ),
+        (root("CityObjects", "{}"), "{}"),
+        (town("\"a\":#", ""), "{}"),
+        (object(r#","attributes":#"#), "{}"),
+        (geometry("#"), "{}"),
+        (semantics("#"), "{}"),
+        (semantics(r#"{"surfaces":[#],"values":[null]}"#), "{}"),
+        (root("type", "\"CityJSON\""), "\"\""),
+        (root("version", "\"2.0\""), "\"\""),
+        (town(r#""a":{"type":#}"#, ""), "\"\""),
+        (geometry(r#"{"type":#,"lod":"1","boundaries":[]}"#), "\"\""),
+        (
+            geometry(r#"{"type":"Solid","lod":#,"boundaries":[]}"#),
+            "\"\"",
+        ),
+        (
+            semantics(r#"{"surfaces":[{"type":#}],"values":[null]}"#),
+            "\"\"",
+        ),
+        (object(r#","children":[#]"#), "\"\""),
+        (object(r#","parents":[#]"#), "\"\""),
+        (root("scale", "[1.0,1.0,1.0]").replace('#', "[1,#,1]"), "0"),
+        (
+            root("translate", "[0.0,0.0,0.0]").replace('#', "[0,0,#]"),
+            "0",
+        ),
+        (root("scale", "[1.0,1.0,1.0]"), "[]"),
+        (root("translate", "[0.0,0.0,0.0]"), "[]"),
+        (root("vertices", "[]"), "[]"),
+        (object(r#","geometry":#"#), "[]"),
+        (object(r#","children":#"#), "[]"),
+        (object(r#","parents":#"#), "[]"),
+        (
+            geometry(r#"{"type":"Solid","lod":"1","boundaries":#}"#),
+            "[]",
+        ),
+        (semantics(r#"{"surfaces":#,"values":[null]}"#), "[]"),
+        (semantics(r#"{"surfaces":[],"values":#}"#), "[]"),
+    ];
+    for (text, wanted) in rows {
+        let place = text.find('#').unwrap();
+        for value in ["null", "true", "false", "0", "\"\"", "[]", "{}"] {
+            let verdict = judge(text.replace('#', value).as_bytes());
+            let wrong = verdict == refused(7, place);
+            assert_eq!(wrong, value != wanted, "{value} in {text}: {verdict:?}");
+        }
+    }
+}
+
+/// Rule 10, for the words that other cases leave out.
+#[test]
+fn wrong_words() {
+    for wrong in ["", "cityjson", "CityJSONFeature", "CityJSO"] {
+        let text = MINIMAL.replace("CityJSON", wrong);
+        check_at(&text, 10, &format!("\"{wrong}\""));
+    }
+    for wrong in ["", "2", "2.0.1", "1.1"] {
+        let text = MINIMAL.replace("2.0", wrong);
+        check_at(&text, 10, &format!("\"{wrong}\""));
+    }
+    for wrong in ["", "road", "Roads", "Solid", "RoofSurface"] {
+        let text = town(&format!(r#""a":{{"type":"{wrong}"}}"#), "");
+        check_at(&text, 10, &format!("\"{wrong}\""));
+    }
+    for wrong in ["", "solid", "Solids", "Road", "RoofSurface"] {
+        check_at(
+            &with_geometry(&shape(wrong, "[]")),
+            10,
+            &format!("\"{wrong}\""),
+        );
+    }
+}
+
 #[test]
 fn required_members() {
     for name in ["type", "version", "transform", "CityObjects", "vertices"] {
@@ -274,6 +379,14 @@ fn required_members() {
     check_at(&with_geometry(geometry), 8, geometry);
     let geometry = r#"{"type":"MultiPoint","lod":"1"}"#;
     check_at(&with_geometry(geometry), 8, geometry);
+    for semantics in [r#"{"values":[0]}"#, r#"{"surfaces":[]}"#, "{ }"] {
+        let point = r#"{"type":"MultiPoint","lod":"1","boundaries":[0]"#;
+        let text = with_geometry(&format!(r#"{point},"semantics":{semantics}}}"#));
+        check_at(&text, 8, semantics);
+    }
+    let surface = r#"{"children":[]}"#;
+    let geometry = shape_with_semantics("MultiPoint", "[0]", &format!("[{surface}]"), "[0]");
+    check_at(&with_geometry(&geometry), 8, surface);
 }
 
 #[test]
@@ -463,16 +576,7 @@ fn permissions() {
         "MultiPoint MultiLineString MultiSurface CompositeSurface Solid MultiSolid ",
         "CompositeSolid"
     );
-    let objects = concat!(
-        "Bridge Building CityFurniture CityObjectGroup GenericCityObject LandUse ",
-        "OtherConstruction PlantCover Railway Road SolitaryVegetationObject TINRelief ",
-        "TransportSquare Tunnel WaterBody Waterway BridgePart BridgeInstallation ",
-        "BridgeConstructiveElement BridgeRoom BridgeFurniture BuildingPart ",
-        "BuildingInstallation BuildingConstructiveElement BuildingFurniture BuildingStorey ",
-        "BuildingRoom BuildingUnit TunnelPart TunnelInstallation TunnelConstructiveElement ",
-        "TunnelHollowSpace TunnelFurniture"
-    );
-    for (index, object) in objects.split(' ').enumerate() {
+    for (index, object) in OBJECTS.split(' ').enumerate() {
         for (code, geometry) in (1..).zip(geometries.split(' ')) {
             let parent = r#""p":{"type":"Road","children":["a"]}"#;
             let start = format!(r#""a":{{"type":"{object}","parents":["p"]"#);
@@ -489,6 +593,96 @@ fn permissions() {
             }
         }
     }
+}
+
+/// The codes of geometry and surface types, on the sheet.
+#[test]
+fn codes() {
+    let geometries = [
+        "MultiPoint",
+        "MultiLineString",
+        "MultiSurface",
+        "CompositeSurface",
+        "Solid",
+        "MultiSolid",
+        "CompositeSolid",
+    ];
+    let surfaces = concat!(
+        "RoofSurface GroundSurface WallSurface ClosureSurface OuterCeilingSurface ",
+        "OuterFloorSurface Window Door InteriorWallSurface CeilingSurface FloorSurface ",
+        "WaterSurface WaterGroundSurface WaterClosureSurface TrafficArea ",
+        "AuxiliaryTrafficArea TransportationMarking TransportationHole +"
+    );
+    for (geometry, word) in (1..).zip(geometries) {
+        for (surface, name) in (1..).zip(surfaces.split(' ')) {
+            let name = name.replace('+', "+x");
+            let surfaces = format!(r#"[{{"type":"{name}"}}]"#);
+            let text = with_geometry(&shape_with_semantics(word, "[]", &surfaces, "[]"));
+            let sheet = lay(text.as_bytes(), 500).1;
+            // After kinds 1 to 5: 66, 18, 9, 6 and 6 bytes. The lod is 1, the boundary empty.
+            let kind_6 = [8, 0, 0, 0, 6, 0, geometry, 0, 31, 0, 0, 0, 0, 0];
+            assert_eq!(sheet[105..119], kind_6, "{word}");
+            let length = if surface == 19 { 4 } else { 2 };
+            let kind_7 = [length, 0, 0, 0, 7, 0, surface, 0];
+            assert_eq!(sheet[119..127], kind_7, "{name}");
+        }
+    }
+}
+
+/// The transform and the vertices on the sheet: little-endian, in two's complement.
+#[test]
+fn numbers_on_the_sheet() {
+    let transform = r#"{"scale":[0.001,1e22,-15],"translate":[0,-12.50,999999999999999e-22]}"#;
+    let text = town("", "[1,-1,-2147483648]").replace(
+        r#"{"scale":[1.0,1.0,1.0],"translate":[0.0,0.0,0.0]}"#,
+        transform,
+    );
+    let pairs: [(i64, i16); 6] = [
+        (1, -3),
+        (1, 22),
+        (-15, 0),
+        (0, 0),
+        (-125, -1),
+        (999_999_999_999_999, -22),
+    ];
+    let mut expected = vec![60, 0, 0, 0, 1, 0];
+    for (m, e) in pairs {
+        expected.extend(m.to_le_bytes());
+        expected.extend(e.to_le_bytes());
+    }
+    expected.extend([12, 0, 0, 0, 2, 0]);
+    expected.extend([1, 0, 0, 0, 255, 255, 255, 255, 0, 0, 0, 128]);
+    expected.extend([0, 0, 0, 0, 9, 0]);
+    assert_eq!(lay(text.as_bytes(), 90).1, expected);
+}
+
+/// Texts that are alike, and texts that are not.
+#[test]
+fn alike_texts() {
+    let laid = |text: &str| {
+        let (verdict, bytes) = lay(text.as_bytes(), 1_000);
+        assert_eq!(verdict.rule(), 0, "{text}");
+        bytes
+    };
+    let one = town(
+        r#""a":{"type":"Road","children":["b"]},"b":{"type":"Road","parents":["a"]}"#,
+        "[0,10,-5]",
+    );
+    // Members in another order, escapes, numbers by value, white space, unexamined members.
+    let two = r#" { "vertices":[[-0,10,-5]], "metadata":[{"type":7}],
+        "CityObjects":{"a":{"children":["\u0062"],"attributes":{"x":1},"type":"R\u006fad"},
+        "\u0062":{"geometry":[],"parents":["a"],"address":null,"type":"Road"}},
+        "transform":{"translate":[0,-0,0e9],"scale":[1,10e-1,0.01E+2]},
+        "version":"2.0","type":"CityJSON"} "#;
+    assert_eq!(laid(&one), laid(two));
+    // City objects in another order, an array in another order, another ID.
+    let order = town(
+        r#""b":{"type":"Road","parents":["a"]},"a":{"type":"Road","children":["b"]}"#,
+        "[0,10,-5]",
+    );
+    assert_ne!(laid(&one), laid(&order));
+    assert_ne!(laid(&one), laid(&one.replace("[0,10,-5]", "[10,0,-5]")));
+    assert_ne!(laid(&one), laid(&one.replace("\"b\"", "\"B\"")));
 }
 
 #[test]
@@ -573,6 +767,16 @@ fn links() {
         Some((16, r#"{"type":"BuildingPart""#)),
     );
     check_links(r#""type":"Road","children":[7]"#, road, Some((7, "7")));
+    for (code, word) in (1..).zip(OBJECTS.split(' ')) {
+        let second = (17..=33).contains(&code);
+        let a = format!(r#""type":"{word}""#);
+        let part = format!(r#"{{"type":"{word}"}}"#);
+        check_links(
+            &a,
+            r#""type":"Road" "#,
+            second.then_some((16, part.as_str())),
+        );
+    }
 }
 
 #[test]
