@@ -201,6 +201,34 @@ fn names_and_words_are_decoded() {
     check_at(&text, 6, "\"type\"");
 }
 
+/// Rule 5: each unpaired surrogate escape at its backslash, in values and in names.
+#[test]
+fn surrogates() {
+    for kept in [
+        r"\uD83D\uDE00",
+        r"\ud83d\uDe00\uDBFF\uDFFF",
+        r"\uD7FF\uE000",
+        r"\\uD800",
+    ] {
+        check(&format!("\"{kept}\""), refused(7, 0));
+    }
+    let rows = [
+        (r"\uD800", 1),
+        (r"\uDFFF", 1),
+        (r"a\uDC00", 2),
+        (r"\uD83D\uDE00\uDE00", 13),
+        (r"\uD83D\uD83D\uDE00", 1),
+        (r"\uDE00\uD83D", 1),
+        (r"\uD83D\n\uDE00", 1),
+        (r"\uD83Dx\uDE00", 1),
+        ("\\uD83D\u{1F600}", 1),
+    ];
+    for (string, place) in rows {
+        check(&format!("\"{string}\""), refused(5, place));
+        check(&format!("{{\"{string}\":0}}"), refused(5, place + 1));
+    }
+}
+
 #[test]
 fn unexamined_parts() {
     let inside = |value: &str| MINIMAL.replacen('{', &format!(r#"{{"metadata":{value},"#), 1);
