@@ -20,6 +20,7 @@ use Rattle.schema.specs.Schema.{cityJson, cityObjects, notTooMany, nameFault, t
 use Rattle.links.specs.Links.{linkFaults}
 use Rattle.model.specs.Code.{All}
 use Rattle.verdict.specs.Verdict.{accepted, refused, faults, given, judged}
+use Rattle.sheets.specs.Clear.{nil-left, nil-right}
 use Rattle.verdict.specs.Exact.{least-best}
 use Rattle.verdict.specs.Places.{Among, Placed, early, early-among, links-safe, faults-small}
 
@@ -43,14 +44,6 @@ nothing lo hi b [] a h = refl
 nothing lo hi b (f ∷ fs) a h = absurd (omega (arith, a .0 .1, least-best (min b f) fs))
 
 -- ---- lists with no element
-
-pub nil-left : {A : Type 0} (l m : List A) → l ++ m ≡ [] → l ≡ []
-nil-left [] m e = refl
-nil-left (a ∷ l) m e = cc
-
-pub nil-right : {A : Type 0} (l m : List A) → l ++ m ≡ [] → m ≡ []
-nil-right [] m e = e
-nil-right (a ∷ l) m e = cc
 
 -- ---- a tree
 

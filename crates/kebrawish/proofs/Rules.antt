@@ -30,7 +30,7 @@ use Rattle.kebrawish.specs.declared.Opened.{Opened}
 use Rattle.kebrawish.specs.declared.Opened.the-variants as opened
 use Rattle.kebrawish.specs.declared.Verdict.{Verdict}
 use Rattle.kebrawish.specs.declared.Verdict.the-variants.{Accepted, Refused}
-use Rattle.kebrawish.specs.Answers.{numberOf, refusal, told, Screens, Stands, Opens, Examined}
+use Rattle.kebrawish.specs.Answers.{numberOf, refusal, told, Room, Screens, Stands, Opens, Examined}
 use Rattle.kebrawish.proofs.Least.{early-passes, all-passes, before-links, no-schema, no-fault, from-five, judged-fault, judged-none, few-objects, few-clean}
 
 -- ---- rules 1 and 2
@@ -79,13 +79,13 @@ module _ (x t₀ t : List ℕ) {r : Parsed} (h : Tells x t₀ t r) where
   open-deep e = ap parsed (subst (Tells x t₀ t) e h .1)
 
   -- neither happens
-  pub open-long : (o : Opened) → length x ≤ 65535 → r ≡ parse.Long → Opens x t o
+  pub open-long : (o : Opened) → Room x t₀ → r ≡ parse.Long → Opens x t o
   unfolding Tells
-  open-long o k e = absurd (omega (arith, subst (Tells x t₀ t) e h))
+  open-long o k e = absurd (omega (arith, subst (Tells x t₀ t) e h, k .short))
 
-  pub open-short : (o : Opened) → length x ≤ 65535 → length t₀ ≡ 98352 → r ≡ parse.Short → Opens x t o
+  pub open-short : (o : Opened) → Room x t₀ → r ≡ parse.Short → Opens x t o
   unfolding Tells
-  open-short o k l e = absurd (omega (arith, subst (Tells x t₀ t) e h .1))
+  open-short o k e = absurd (omega (arith, subst (Tells x t₀ t) e h .1, k .long))
 
 module _ (x t : List ℕ) {r : Opened} (h : Opens x t r) where
   pub opened-tree : {n : ℕ} → r ≡ opened.Tree n → Stands x t n

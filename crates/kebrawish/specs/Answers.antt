@@ -87,6 +87,11 @@ pub record Stands (x t : List ℕ) (n : ℕ) : Type 0 where
   pub stands : Sub x t 0 value
   pub ends : size value ≡ n
 
+-- the text x is not too long, and the table t has room for its tree's words
+pub record Room (x t : List ℕ) : Type 0 where
+  pub short : length x ≤ 65535
+  pub long : 3 * length x + 99 ≤ 2 * length t
+
 -- rules 1 and 2 were kept, or the text x is refused
 unfoldable pub Screens : List ℕ → Screened → Type 0
 Screens x screened.Passed = (length x ≤ 65535) × (verdict.verdict x ≡ verdict.parsed (read x))

@@ -6,7 +6,7 @@ ghost use Rattle.nodes.specs.Faults.{none, ruleOf, placeIn};
 ghost use Rattle.verdict.specs.Verdict.{refused, parsed, verdict};
 ghost use Rattle.json.specs.Machine.{read};
 ghost use Rattle.sheets.specs.Laid.{answer, roomAfter};
-ghost use Rattle.kebrawish.specs.Answers.{answered, laidWord, Zeroes, Lays, numberOf, refusal, told, word, Screens, Stands, Opens, Examined};
+ghost use Rattle.kebrawish.specs.Answers.{answered, laidWord, Zeroes, Lays, Room, numberOf, refusal, told, word, Screens, Stands, Opens, Examined};
 use json::Parsed;
 use schema::Walked;
 
@@ -117,7 +117,7 @@ fn screen(text: &[u8]) -> Screened
 
 // Reads a text that is not too long into the node table, or refuses it by rule 3 or 4.
 fn open(text: &[u8], table: &mut [u32]) -> Opened
-    requires { ⌜ (length (now text) ≤ 65535) × (length (now table) ≡ 98352) ⌝ }
+    requires { ⌜ Room (now text) (now table) ⌝ }
     ensures { λ r. ⌜ Opens (now (text .entry)) (now (table .exit)) r ⌝ }
 {
     let answer = json::parse(text, table);
@@ -177,18 +177,47 @@ fn judge_table(text: &[u8], table: &[u32], n: usize) -> Verdict
     Verdict::Accepted(index.count)
 }
 
-// Rules 3 to 17 of a text that is not too long.
-fn judge_json(text: &[u8]) -> Verdict
-    requires { ⌜ length (now text) ≤ 65535 ⌝ }
+// Rules 3 to 17 of a text, with a work table that has room for its tree.
+fn judge_in(text: &[u8], table: &mut [u32]) -> Verdict
+    requires { ⌜ Room (now text) (now table) ⌝ }
     ensures { λ r. ⌜ told r ≡ parsed (read (now (text .entry))) ⌝ }
 {
-    let mut space: [u32; 98352] = [0; 98352];
-    let table: &mut [u32] = &mut space;
     let opened = open(text, table);
     match opened {
         Opened::Tree(n) => judge_table(text, table, n),
         Opened::Refused(refusal) => Verdict::Refused(refusal),
     }
+}
+
+// Rules 3 to 17 of a text of at most 4,096 bytes. A small work table is cleared sooner.
+fn judge_short(text: &[u8]) -> Verdict
+    requires { ⌜ length (now text) ≤ 4096 ⌝ }
+    ensures { λ r. ⌜ told r ≡ parsed (read (now (text .entry))) ⌝ }
+{
+    let mut space: [u32; 6194] = [0; 6194];
+    let table: &mut [u32] = &mut space;
+    judge_in(text, table)
+}
+
+// Rules 3 to 17 of a text that is not too long.
+fn judge_long(text: &[u8]) -> Verdict
+    requires { ⌜ length (now text) ≤ 65535 ⌝ }
+    ensures { λ r. ⌜ told r ≡ parsed (read (now (text .entry))) ⌝ }
+{
+    let mut space: [u32; 98352] = [0; 98352];
+    let table: &mut [u32] = &mut space;
+    judge_in(text, table)
+}
+
+// Rules 3 to 17 of a text that is not too long, with a work table of a size that suits it.
+fn judge_json(text: &[u8]) -> Verdict
+    requires { ⌜ length (now text) ≤ 65535 ⌝ }
+    ensures { λ r. ⌜ told r ≡ parsed (read (now (text .entry))) ⌝ }
+{
+    if text.len() <= 4096 {
+        return judge_short(text);
+    }
+    judge_long(text)
 }
 
 // Judges a text: the number of its city objects, or the lowest broken rule at its earliest place.
@@ -224,18 +253,47 @@ fn lay_table(text: &[u8], table: &[u32], n: usize, sheet: &mut [u8]) -> Answer
     Answer::Laid(size, index.count)
 }
 
-// Lays out a text that is not too long, in a sheet of zeroes.
-fn lay_json(text: &[u8], sheet: &mut [u8]) -> Answer
-    requires { ⌜ (length (now text) ≤ 65535) × (Zeroes (now sheet)) ⌝ }
+// Lays out a text in a sheet of zeroes, with a work table that has room for its tree.
+fn lay_in(text: &[u8], table: &mut [u32], sheet: &mut [u8]) -> Answer
+    requires { ⌜ (Room (now text) (now table)) × (Zeroes (now sheet)) ⌝ }
     ensures { λ r. ⌜ Lays (now (text .entry)) (parsed (read (now (text .entry)))) (now (sheet .entry)) (now (sheet .exit)) (answered r) ⌝ }
 {
-    let mut space: [u32; 98352] = [0; 98352];
-    let table: &mut [u32] = &mut space;
     let opened = open(text, table);
     match opened {
         Opened::Tree(n) => lay_table(text, table, n, sheet),
         Opened::Refused(refusal) => Answer::Refused(refusal),
     }
+}
+
+// Lays out a text of at most 4,096 bytes in a sheet of zeroes.
+fn lay_short(text: &[u8], sheet: &mut [u8]) -> Answer
+    requires { ⌜ (length (now text) ≤ 4096) × (Zeroes (now sheet)) ⌝ }
+    ensures { λ r. ⌜ Lays (now (text .entry)) (parsed (read (now (text .entry)))) (now (sheet .entry)) (now (sheet .exit)) (answered r) ⌝ }
+{
+    let mut space: [u32; 6194] = [0; 6194];
+    let table: &mut [u32] = &mut space;
+    lay_in(text, table, sheet)
+}
+
+// Lays out a text that is not too long, in a sheet of zeroes.
+fn lay_long(text: &[u8], sheet: &mut [u8]) -> Answer
+    requires { ⌜ (length (now text) ≤ 65535) × (Zeroes (now sheet)) ⌝ }
+    ensures { λ r. ⌜ Lays (now (text .entry)) (parsed (read (now (text .entry)))) (now (sheet .entry)) (now (sheet .exit)) (answered r) ⌝ }
+{
+    let mut space: [u32; 98352] = [0; 98352];
+    let table: &mut [u32] = &mut space;
+    lay_in(text, table, sheet)
+}
+
+// Lays out a text that is not too long, in a sheet of zeroes, with a work table of a size that suits it.
+fn lay_json(text: &[u8], sheet: &mut [u8]) -> Answer
+    requires { ⌜ (length (now text) ≤ 65535) × (Zeroes (now sheet)) ⌝ }
+    ensures { λ r. ⌜ Lays (now (text .entry)) (parsed (read (now (text .entry)))) (now (sheet .entry)) (now (sheet .exit)) (answered r) ⌝ }
+{
+    if text.len() <= 4096 {
+        return lay_short(text, sheet);
+    }
+    lay_long(text, sheet)
 }
 
 // Lays out a text in the lent sheet: the sheet's length and the number of city objects, and the sheet with zeroes after it; or a refusal as judge gives it, 18 if the sheet is longer than the room, and zeroes throughout.

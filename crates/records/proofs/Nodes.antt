@@ -79,7 +79,7 @@ module _ {P : Json → Type 0} {f : Json → List ℕ} {x t : List ℕ} {i n k :
   laying-node l = laying-item p l .node
 
   pub laying-same : length d ≡ length d₀
-  laying-same = p .left (p .node .value) (p .node .stands) .holds .wrote .room
+  laying-same = p .room
 
 -- all of them were written
 module _ (f : Json → List ℕ) {x t : List ℕ} {found : Found} where

@@ -100,8 +100,8 @@ module _ {w d₀ d : List ℕ} {n : ℕ} (e : isLod w ≡ true) (c : Copied w d�
     pub lod-product : Fits w64 (m * 16)
     lod-product = record { fits = omega (arith, major-small) }
 
-    pub lod-sum : Fits w64 (m * 16 + 15)
-    lod-sum = record { fits = omega (arith, major-small) }
+    pub lod-sum : (k : ℕ) → k ≤ 15 → Fits w64 (m * 16 + k)
+    lod-sum k h = record { fits = omega (arith, major-small) }
 
     pub lod-whole : n < 3 → m * 16 + 15 ≡ lodCode (lodOf w)
     lod-whole h = ap (λ k. k * 16 + 15) q ∙ copied .whole (omega (arith, c .answer))

@@ -15,12 +15,12 @@ use Rattle.model.specs.Read as read
 use Rattle.sheets.specs.Laid.{Answer, laid, refused, answer, sheetOfText, roomAfter}
 
 -- opening this opens all that an answer and a sheet need
-unfoldable lays : List ℕ → ℕ → Answer
+unfoldable pub lays : List ℕ → ℕ → Answer
 unfolding answer roomAfter ascii step wantStep gotStep nextStep nameStep mantStep noughtStep isBlank isDigit isHex isEscape _◂_ with decimal codeOf objectWords geometryWords surfaceWords depth valuesDepth elements members nameOf textOf find le signed each layRec layThree layDecimal minorCode lodCode layNest layValue layValues laySurface surfaceRecs semanticsRecs geometryRecs objectRecs modelRecs layModel numberOf idsOf numberObject numberModel orNull get read.numberOf zeroIfNone decimalOf times integerOf natural indexOf valueOf threeOf nestOf minorOf lodOf surfaceNamed surfaceOf semanticsOf geometryOf objectOf
 lays text room = answer text room
 
 -- CityJSON's minimal object
-minimal : List ℕ
+unfoldable pub minimal : List ℕ
 unfolding ascii
 minimal = ascii "{ \"type\": \"CityJSON\", \"version\": \"2.0\", \"transform\": { \"scale\": [1.0, 1.0, 1.0], \"translate\": [0.0, 0.0, 0.0] }, \"CityObjects\": {}, \"vertices\": [] }"
 

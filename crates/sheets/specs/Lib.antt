@@ -7,3 +7,4 @@ pub mod Faultless
 pub mod Answers
 pub mod Theorems
 pub mod Examples
+pub mod Starred

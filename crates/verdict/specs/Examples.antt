@@ -1,4 +1,4 @@
--- The sample readings of document 01 that need no sheet, by computation. Assumes nothing.
+-- Verdicts by computation: the sample reading of document 01 that has no star, and two texts that are accepted. The starred readings are in `sheets`. Assumes nothing.
 use Prim.Native.Nat.{ℕ}
 use mathlib.Core.Path.{_≡_, refl}
 use mathlib.Core.List.{List, [], _∷_, _++_}
@@ -12,50 +12,6 @@ use Rattle.verdict.specs.Verdict.{Verdict, accepted, refused, verdict}
 unfoldable pub judges : List ℕ → Verdict
 unfolding verdict ascii step wantStep gotStep nextStep nameStep mantStep noughtStep isBlank isDigit isHex isEscape _◂_ with
 judges text = verdict text
-
-empty : judges [] ≡ refused 3 0
-unfolding judges
-empty = refl
-
-tru : judges (ascii "tru") ≡ refused 3 3
-unfolding judges
-tru = refl
-
-ff : judges (0xFF ∷ []) ≡ refused 2 0
-unfolding judges
-ff = refl
-
-open-32 : judges (replicate 32 91) ≡ refused 3 32
-unfolding judges
-open-32 = refl
-
-open-33 : judges (replicate 33 91) ≡ refused 4 32
-unfolding judges
-open-33 = refl
-
-surrogate : judges (ascii "\"\\uD800\"") ≡ refused 5 1
-unfolding judges
-surrogate = refl
-
-twice : judges (ascii "{\"type\":1,\"type\":1}") ≡ refused 6 10
-unfolding judges
-twice = refl
-
-twice-decoded : judges (ascii "{\"\\u0061\":1,\"a\":2}") ≡ refused 6 12
-unfolding judges
-twice-decoded = refl
-
-kind : judges (ascii "{\"type\":1}") ≡ refused 7 8
-unfolding judges
-kind = refl
-
-array : judges (ascii "[]") ≡ refused 7 0
-unfolding judges
-array = refl
-
-missing : judges (ascii " {}") ≡ refused 8 1
-unfolding judges
-missing = refl
 
 closed-32 : judges (replicate 32 91 ++ replicate 32 93) ≡ refused 7 0
 unfolding judges
