@@ -4,6 +4,8 @@ mod sides;
 mod texts;
 
 use sides::{race, room, Other, Runner, Side, Text};
+use std::cmp::Reverse;
+use std::collections::BTreeMap;
 use std::process::Command;
 use std::rc::Rc;
 use texts::{Kind, DENSE, MANY, PRETTY, WORST};
@@ -29,16 +31,18 @@ fn main() {
     match words.iter().map(String::as_str).collect::<Vec<_>>()[..] {
         ["times", seconds] => times(&sides, seconds.parse().expect("seconds")),
         ["instructions"] => instructions(&sides),
-        ["count"] => counted(&sides).iter_mut().for_each(|(_, runner)| {
-            runner.time();
-            runner.count();
-        }),
+        ["count"] => {
+            let plain = |kind: &Kind, limit| Text::new((kind.make)(limit));
+            counted(&sides, plain)
+                .iter_mut()
+                .for_each(|(_, runner)| runner.count());
+        }
         _ => panic!("see bench/run"),
     }
 }
 
 /// A text of a kind, held to the rule that it is said to break.
-fn text(kind: &Kind, limit: usize) -> Rc<Text> {
+fn checked(kind: &Kind, limit: usize) -> Rc<Text> {
     let text = Text::new((kind.make)(limit));
     for side in [Side::Judge, Side::Lay] {
         let rule = Runner::new(&Rc::new(side), &text).check();
@@ -47,7 +51,7 @@ fn text(kind: &Kind, limit: usize) -> Rc<Text> {
     text
 }
 
-fn main_texts() -> Vec<(String, Rc<Text>)> {
+fn main_texts(text: fn(&Kind, usize) -> Rc<Text>) -> Vec<(String, Rc<Text>)> {
     let named = |kind: &Kind, limit| (kind.name.to_string(), text(kind, limit));
     vec![
         named(&DENSE, 64_000),
@@ -89,7 +93,7 @@ fn main_table(sides: &[Rc<Side>], seconds: f64) -> Vec<(String, Vec<Runner>)> {
     println!("Best times in microseconds:\n");
     head(&columns);
     let mut all = Vec::new();
-    for (name, text) in main_texts() {
+    for (name, text) in main_texts(checked) {
         let mut runners: Vec<Runner> = sides.iter().map(|side| Runner::new(side, &text)).collect();
         for runner in &mut runners {
             assert_eq!(
@@ -184,8 +188,8 @@ fn goal_table(all: &[(String, Vec<Runner>)]) {
 
 /// Judge and lay on a kind of text, and on a dense quarter of the same length.
 fn beside_dense(kind: &Kind, limit: usize, seconds: f64) -> Vec<Runner> {
-    let worst = text(kind, limit);
-    let dense = text(&DENSE, worst.bytes().len());
+    let worst = checked(kind, limit);
+    let dense = checked(&DENSE, worst.bytes().len());
     let runner = |side: Side, text| Runner::new(&Rc::new(side), text);
     let mut runners = vec![
         runner(Side::Judge, &worst),
@@ -242,7 +246,7 @@ fn growth_table(seconds: f64) {
     head(&["text", "4 kB", "16 kB", "64 kB", "length", "time"]);
     for kind in [&DENSE, &MANY].into_iter().chain(&WORST) {
         let sizes = [4_000, 16_000, 64_000].map(|limit| {
-            let mut runners = [Runner::new(&Rc::new(Side::Judge), &text(kind, limit))];
+            let mut runners = [Runner::new(&Rc::new(Side::Judge), &checked(kind, limit))];
             race(&mut runners, seconds / 4.0);
             (runners[0].text.bytes().len() as f64, micros(&runners[0]))
         });
@@ -256,9 +260,9 @@ fn growth_table(seconds: f64) {
 }
 
 /// The calls whose instructions are counted: every side on the first texts, judge and lay on the worst.
-fn counted(sides: &[Rc<Side>]) -> Vec<(String, Runner)> {
+fn counted(sides: &[Rc<Side>], text: fn(&Kind, usize) -> Rc<Text>) -> Vec<(String, Runner)> {
     let mut runs = Vec::new();
-    for (name, text) in main_texts() {
+    for (name, text) in main_texts(text) {
         runs.extend(
             sides
                 .iter()
@@ -267,11 +271,8 @@ fn counted(sides: &[Rc<Side>]) -> Vec<(String, Runner)> {
     }
     for kind in &WORST {
         let text = text(kind, MOST);
-        runs.extend(
-            sides[..2]
-                .iter()
-                .map(|side| (kind.name.to_string(), Runner::new(side, &text))),
-        );
+        let run = |side| (kind.name.to_string(), Runner::new(side, &text));
+        runs.extend(sides[..2].iter().map(run));
     }
     runs
 }
@@ -285,7 +286,7 @@ fn instructions(sides: &[Rc<Side>]) {
             "--tool=callgrind",
             "--toggle-collect=bench_counted",
             "--dump-after=bench_counted",
-            "--dump-instr=yes",
+            "--compress-strings=no",
         ])
         .arg(format!("--callgrind-out-file={COUNTS}/out"))
         .arg(std::env::current_exe().expect("this program"))
@@ -302,23 +303,59 @@ fn instructions(sides: &[Rc<Side>]) {
         "{}",
         String::from_utf8_lossy(&output.stderr)
     );
-    println!("Instructions of one call, after one that is not counted ({COUNTS} has a profile of each, for callgrind_annotate):\n");
-    head(&["text", "side", "instructions", "per byte", "profile"]);
-    for (place, (name, runner)) in counted(sides).iter().enumerate() {
-        let profile = format!("out.{}", place + 1);
-        let file =
-            std::fs::read_to_string(format!("{COUNTS}/{profile}")).expect("a file of callgrind");
-        let total = file
-            .lines()
-            .find_map(|line| line.strip_prefix("totals: "))
-            .expect("a total");
-        let count: f64 = total.trim().parse().expect("a number");
+    println!(
+        "Instructions of one call, and the functions of judge and lay with at least a hundredth of them ({COUNTS} has callgrind's files):\n"
+    );
+    head(&[
+        "text",
+        "side",
+        "instructions",
+        "per byte",
+        "in which functions",
+    ]);
+    for (place, (name, runner)) in counted(sides, checked).iter().enumerate() {
+        let path = format!("{COUNTS}/out.{}", place + 1);
+        let functions = profile(&std::fs::read_to_string(path).expect("a file of callgrind"));
+        let total: u64 = functions.iter().map(|(_, count)| count).sum();
+        let share = |count: u64| 100.0 * count as f64 / total as f64;
+        let own = matches!(*runner.side, Side::Judge | Side::Lay);
+        let named: Vec<String> = functions
+            .iter()
+            .take(10)
+            .filter(|(_, count)| own && share(*count) >= 1.0)
+            .map(|(name, count)| format!("{name} {:.0}%", share(*count)))
+            .collect();
         row(&[
             name.clone(),
             runner.side.name().to_string(),
-            total.trim().to_string(),
-            format!("{:.1}", count / runner.text.bytes().len() as f64),
-            profile,
+            total.to_string(),
+            format!("{:.1}", total as f64 / runner.text.bytes().len() as f64),
+            named.join(", "),
         ]);
     }
+}
+
+/// The instructions of each function itself in a file of callgrind, the most first.
+fn profile(file: &str) -> Vec<(String, u64)> {
+    let mut counts = BTreeMap::new();
+    let mut function = String::new();
+    let mut lines = file.lines();
+    while let Some(line) = lines.next() {
+        if let Some(name) = line.strip_prefix("fn=") {
+            // A function that calls itself is one function.
+            function = name.split('\'').next().unwrap_or(name).to_string();
+        } else if line.starts_with("calls=") {
+            // What the called function took stands in the next line.
+            lines.next();
+        } else if line.starts_with(|c: char| c.is_ascii_digit() || "+-*".contains(c)) {
+            let count = line
+                .split(' ')
+                .nth(1)
+                .and_then(|word| word.parse::<u64>().ok());
+            *counts.entry(function.clone()).or_default() += count.unwrap_or(0);
+        }
+    }
+    let mut sorted: Vec<(String, u64)> = counts.into_iter().collect();
+    sorted.sort_by_key(|(_, count)| Reverse(*count));
+    sorted
 }

@@ -148,8 +148,11 @@ impl Runner {
         self.release(&given);
     }
 
-    /// Calls once under a name that callgrind can watch.
+    /// Calls once under a name that callgrind can watch; before that once more, if the side may keep something.
     pub fn count(&mut self) {
+        if !matches!(*self.side, Side::Judge | Side::Lay) {
+            self.time();
+        }
         let given = bench_counted(self);
         self.release(&given);
     }

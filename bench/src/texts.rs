@@ -25,10 +25,10 @@ pub const WORST: [Kind; 15] = [
         })
     }),
     kind("objects listing others", 0, |limit| {
-        largest(limit, 1024, |n| listing(n, limit, "CityObjectGroup"))
+        listing(limit, "CityObjectGroup")
     }),
     kind("objects listing others, unreturned", 17, |limit| {
-        largest(limit, 1024, |n| listing(n, limit, "Road"))
+        listing(limit, "Road")
     }),
     kind("a parent of 1,023", 0, |limit| {
         largest(limit, 1023, |n| family(n, "", short))
@@ -211,9 +211,10 @@ fn many(limit: usize) -> String {
     largest(limit, 1024, objects)
 }
 
-/// Objects that list as many of the last objects as fit in their share of the bytes.
-fn listing(count: usize, limit: usize, word: &str) -> String {
-    let share = (limit - 200) / count.max(1);
+/// At most 1,024 objects that list as many of the last ones as fit in 64 bytes each.
+fn listing(limit: usize, word: &str) -> String {
+    let count = ((limit - 200) / 63).min(1024);
+    let share = 63;
     let object = |n: usize| {
         let mut text = format!(r#""{}":{{"type":"{word}","children":["#, short(n));
         let start = text.len();
