@@ -4,3 +4,5 @@ mod Loops
 mod Passes
 mod Rule5
 mod Rule6
+mod Hashes
+mod Links

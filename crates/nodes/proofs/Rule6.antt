@@ -1,11 +1,11 @@
 -- Rule 6 at one name and at one object. Assumes nothing.
-use Prim.Native.Nat.{ℕ, _+_, _-_, _≤_, _<_, min}
+use Prim.Native.Nat.{ℕ, zero, suc, _+_, _-_, _≤_, _<_, min}
 use mathlib.Core.Path.{_≡_, refl, sym, ap, _∙_}
 use mathlib.Core.Bool.{Bool, true, false, cond, not, _||_, or-false, or-true}
 use mathlib.Core.List.{List, [], _∷_, map, map-append}
 use native.Mathlib.Nat.{add-zero}
 use native.Mathlib.Omega.{arith}
-use lib.ListN.{length, getD}
+use lib.ListN.{length, getD, replicate, length-replicate}
 use borrow.Author.Needs.{needs}
 use borrow.Author.Tests.{eq-eqb, ne-eqb, not-true, not-false}
 use Rattle.utf8.specs.Utf8.{same}
@@ -20,6 +20,8 @@ use Rattle.nodes.specs.Faults.{fault, least}
 use Rattle.nodes.specs.Everywhere.{among, repeated}
 use Rattle.nodes.specs.Laws.{quoted-at, kinds, fieldsOf, object-begin, no-fields, least-++}
 use Rattle.nodes.specs.Parts.{Part, value, Stands, of-value, of-name, own6, AnyPart, PartGives, earlier, textAt, NameNode, Repeats, RepeatGives}
+use Rattle.nodes.specs.Chains.{Chains, ChainAt, ChainGives, LongObject}
+use Rattle.nodes.proofs.Links.{chains-begin}
 use Rattle.nodes.proofs.Loops.{Walk, walk-of, walk-on, walk-first, walk-second, walk-room, walk-some, walk-span, walk-less}
 use Rattle.nodes.proofs.Rule5.{any-first, any-third, any-inside}
 
@@ -116,19 +118,21 @@ module _ {x t : List ℕ} {first k : ℕ} where
   unfolding least
   repeat-found {r} {b} {p} {u} {w} g e q y z = record { is = λ ms f o. rw (sym (g .is ms f o) ∙ not-false r e) (z ∙ (ap (min b) y ∙ ap (λ (m : ℕ). min b (fault 6 m)) q)) }
 
--- The names of an object: those of the members `before` come before k, and the faults of `fields` are those of the members that are left
-record Earlier (x t : List ℕ) (first k b₀ b : ℕ) (fields left : Members) : Type 0 where
+-- The names of an object: those of the members `before` come before k, Q holds of their texts, and the faults of `fields` are those of the members that are left
+record Earlier (x t : List ℕ) (first k b₀ b : ℕ) (Q : List (List ℕ) → Type 0) (fields left : Members) : Type 0 where
   before : Members
   stand : Fields x t first before
   ends : first + widths before ≡ k
+  also : Q (earlier [] before)
   holds : least b (map (fault 6) (repeated (earlier [] before) left)) ≡ least b₀ (map (fault 6) (repeated [] fields))
 
 -- what the loop over the names of the object at i knows where it has come to k, and the least so far is b
-pub record Sweeps (x t : List ℕ) (i first n b₀ k b : ℕ) : Type 0 where
+pub record Sweeps (x t : List ℕ) (i first n b₀ k b : ℕ) (Q : List (List ℕ) → Type 0) : Type 0 where
   pub some : AnyPart x t i
   pub brace : getD x (getD t i 0) 0 ≡ 123
+  pub ends : n ≡ getD t (i + 2) 0
   pub walk : Walk x t n k
-  left : (v : Json) → Sub x t i v → MembersLeft x t k n (Earlier x t first k b₀ b (fieldsOf v))
+  left : (v : Json) → Sub x t i v → MembersLeft x t k n (Earlier x t first k b₀ b Q (fieldsOf v))
 
 -- what starts with a brace is an object, and no name
 module _ {x t : List ℕ} {i : ℕ} where
@@ -156,41 +160,57 @@ pub repeated-none : {x t : List ℕ} {i p : ℕ} (b : ℕ) → p ≡ getD t i 0 
 unfolding least
 repeated-none b e n = record { is = λ d s. rw (other-part s (λ h. n (rw e h))) }
 
+-- r is the least of b and of the fault of the name at the node k, if it is among the texts us
+abbrev Least : List ℕ → List ℕ → ℕ → ℕ → ℕ → List (List ℕ) → Type 0
+Least x t k b r us = r ≡ least b (map (fault 6) (cond (among us (textAt x t k)) (getD t k 0 ∷ []) []))
+
 -- the faults from one member on
-repeated-step : {x t : List ℕ} {first k n b₀ b r : ℕ} {fields : Members} (u : MemberPast x t k n (Earlier x t first k b₀ b fields)) → RepeatGives x t first k b r → Earlier x t first (getD t (k + 3 + 2) 0) b₀ r fields (u .others)
+repeated-step : {x t : List ℕ} {first k n b₀ b r : ℕ} {Q R : List (List ℕ) → Type 0} {fields : Members} (u : MemberPast x t k n (Earlier x t first k b₀ b Q fields)) → Least x t k b r (earlier [] (u .holds .before)) → R (textAt x t k ∷ earlier [] (u .holds .before)) → Earlier x t first (getD t (k + 3 + 2) 0) b₀ r R fields (u .others)
 unfolding repeated textAt
-repeated-step {x} {t} {first} {k} {n} {b₀} {b} {r} {fields} u g =
+repeated-step {x} {t} {first} {k} {n} {b₀} {b} {r} {Q} {R} {fields} u g q =
     let o = u .holds in
     let a = quoted-at (u .quoted) in
     let p : u .key .place ≡ getD t k 0 = sym (u .quoted .words .start) in
-    let y : r ≡ least b (map (fault 6) (cond (among (earlier [] (o .before)) (decode (u .key .raw))) (u .key .place ∷ []) [])) = rw (a .text, p) (g .is (o .before) (o .stand) (o .ends)) in
+    let y : r ≡ least b (map (fault 6) (cond (among (earlier [] (o .before)) (decode (u .key .raw))) (u .key .place ∷ []) [])) = rw (a .text, p) g in
     record {
       before = with (o .before) (u .key) (u .value);
       stand = fields-with (o .stand) (o .ends) (u .quoted) (u .stands);
       ends = omega (arith, widths-with (o .before) (u .key) (u .value), o .ends, u .word .next);
+      also = rw (earlier-with [] (o .before) (u .key) (u .value), a .text) q;
       holds = rw (earlier-with [] (o .before) (u .key) (u .value), y, ← least-++, ← map-append) (o .holds);
     }
 
+-- nothing is asked of the texts of the names
+abbrev pub Any : List (List ℕ) → Type 0
+Any us = Unit
+
 module _ {x t : List ℕ} {i : ℕ} where
-  pub sweep-begin : {p n : ℕ} (b : ℕ) → AnyPart x t i → p ≡ getD t i 0 → getD x p 0 ≡ 123 → n ≡ getD t (i + 2) 0 → Sweeps x t i (i + 3) n b (i + 3) b
+  begin : {p n : ℕ} {Q : List (List ℕ) → Type 0} (b : ℕ) → AnyPart x t i → p ≡ getD t i 0 → getD x p 0 ≡ 123 → n ≡ getD t (i + 2) 0 → Q [] → Sweeps x t i (i + 3) n b (i + 3) b Q
   unfolding widths earlier
-  sweep-begin {p} {n} b a q h o = let d = of-object (a .stands) brace in record { some = a; brace = brace; walk = walk-of (begun (d .value) (d .stands)); left = begun }
+  begin {p} {n} {Q} b a q h o z = let d = of-object (a .stands) brace in record { some = a; brace = brace; ends = o; walk = walk-of (begun (d .value) (d .stands)); left = begun }
     where
       brace : getD x (getD t i 0) 0 ≡ 123
       brace = rw (← q) h
 
-      begun : (v : Json) → Sub x t i v → MembersLeft x t (i + 3) n (Earlier x t (i + 3) (i + 3) b b (fieldsOf v))
-      begun v s = rw o (object-begin s (is-object brace s) (record { before = tree.empty; stand = last; ends = add-zero (i + 3); holds = refl }))
+      begun : (v : Json) → Sub x t i v → MembersLeft x t (i + 3) n (Earlier x t (i + 3) (i + 3) b b Q (fieldsOf v))
+      begun v s = rw o (object-begin s (is-object brace s) (record { before = tree.empty; stand = last; ends = add-zero (i + 3); also = z; holds = refl }))
 
-  module _ {first n b₀ k b : ℕ} (c : Sweeps x t i first n b₀ k b) where
+  pub sweep-begin : {p n : ℕ} (b : ℕ) → AnyPart x t i → p ≡ getD t i 0 → getD x p 0 ≡ 123 → n ≡ getD t (i + 2) 0 → Sweeps x t i (i + 3) n b (i + 3) b Any
+  sweep-begin b a q h o = begin b a q h o tt
+
+  module _ {first n b₀ k b : ℕ} {Q : List (List ℕ) → Type 0} (c : Sweeps x t i first n b₀ k b Q) where
+    turn : k < n → MemberPast x t k n (Earlier x t first k b₀ b Q (fieldsOf (of-object (c .some .stands) (c .brace) .value)))
+    turn l = let d = of-object (c .some .stands) (c .brace) in member-past (c .left (d .value) (d .stands)) l
+
     pub sweep-name : k < n → NameNode x t first k
-    sweep-name l =
-        let d = of-object (c .some .stands) (c .brace) in
-        let u = member-past (c .left (d .value) (d .stands)) l in
-        record { before = u .holds .before; stand = u .holds .stand; ends = u .holds .ends; raw = u .key .raw; string = quoted-at (u .quoted); short = c .some .short }
+    sweep-name l = let u = turn l in record { before = u .holds .before; stand = u .holds .stand; ends = u .holds .ends; raw = u .key .raw; string = quoted-at (u .quoted); short = c .some .short }
 
-    pub sweep-again : {r m : ℕ} → k < n → RepeatGives x t first k b r → m ≡ getD t (k + 3 + 2) 0 → Sweeps x t i first n b₀ m r
-    sweep-again l g q = record { some = c .some; brace = c .brace; walk = walk-on (c .walk) l q; left = λ v s. let u = member-past (c .left v s) l in rw q (member-over u (repeated-step u g)) }
+    pub sweep-long : {ls : List ℕ} → n ≤ 98352 → length ls ≡ 32784 → LongObject x t ls i
+    sweep-long f h = record { some = c .some; brace = c .brace; ends = rw (← c .ends) f; links = h }
+
+    -- the names that were seen are no more than the nodes that were passed
+    pub sweep-seen : {seen m : ℕ} → k < n → seen ≤ k → m ≡ getD t (k + 3 + 2) 0 → seen + 1 ≤ m
+    sweep-seen l h q = omega (arith, walk-less (c .walk) l q)
 
     pub sweep-done : n ≤ k → PartGives 6 own6 x t i b₀ b
     unfolding own6 repeated least
@@ -200,6 +220,55 @@ module _ {x t : List ℕ} {i : ℕ} where
         done (of-value {v = v} s) = members-ended (c .left v s) h .holds
         done (of-name q) = absurd (no-name (c .brace) q)
 
+  pub sweep-again : {first n b₀ k b r m : ℕ} → Sweeps x t i first n b₀ k b Any → k < n → RepeatGives x t first k b r → m ≡ getD t (k + 3 + 2) 0 → Sweeps x t i first n b₀ m r Any
+  sweep-again c l g q =
+      record { some = c .some; brace = c .brace; ends = c .ends; walk = walk-on (c .walk) l q; left = λ v s. let u = member-past (c .left v s) l in rw q (member-over u (repeated-step u (g .is (u .holds .before) (u .holds .stand) (u .holds .ends)) tt)) }
+
+-- the same loop by chains
+pub record Threads (x t ls hs : List ℕ) (i first n b₀ k b : ℕ) : Type 0 where
+  pub sweeps : Sweeps x t i first n b₀ k b (Chains x t ls hs k)
+  few : n ≤ 98352
+  pub links : length ls ≡ 32784
+  heads : length hs ≡ 4096
+
+getD-replicate : (c n : ℕ) → _≡_ {A = ℕ} (getD (replicate n 0) c 0) 0
+getD-replicate c zero = refl
+getD-replicate zero (suc n) = refl
+getD-replicate (suc c) (suc n) = getD-replicate c n
+
+module _ {x t : List ℕ} {i : ℕ} where
+  pub thread-third : {ls : List ℕ} → LongObject x t ls i → i + 2 < length t
+  thread-third d = any-third (d .some)
+
+  pub thread-begin : {n : ℕ} (b : ℕ) {ls : List ℕ} (hs : List ℕ) → LongObject x t ls i → n ≡ getD t (i + 2) 0 → hs ≡ replicate 4096 0 → Threads x t ls hs i (i + 3) n b (i + 3) b
+  thread-begin b {ls} hs d o z =
+      record { sweeps = begin b (d .some) refl (d .brace) o (chains-begin x t ls hs (i + 3) (λ c. ap (λ (l : List ℕ). getD l c 0) z ∙ getD-replicate c 4096) (omega arith)); few = rw o (d .ends); links = d .links; heads = ap length z ∙ length-replicate {A = ℕ} 4096 0 }
+
+  module _ {first n b₀ k b : ℕ} {ls hs : List ℕ} (c : Threads x t ls hs i first n b₀ k b) where
+    pub thread-room : k < n → k + 3 + 2 < length t
+    thread-room l = walk-room (c .sweeps .walk) l
+
+    pub thread-less : {m : ℕ} → k < n → m ≡ getD t (k + 3 + 2) 0 → n - m < n - k
+    thread-less l q = walk-less (c .sweeps .walk) l q
+
+    pub thread-name : k < n → ChainAt x t ls hs k
+    thread-name l =
+        let u = turn (c .sweeps) l in
+        record { texts = earlier [] (u .holds .before); chains = u .holds .also; raw = u .key .raw; string = quoted-at (u .quoted); short = c .sweeps .some .short; inside = omega (arith, c .few); links = c .links; heads = c .heads }
+
+    pub thread-again : {r m : ℕ} {ls′ hs′ : List ℕ} → k < n → ChainGives x t ls hs ls′ hs′ k b r → m ≡ getD t (k + 3 + 2) 0 → Threads x t ls′ hs′ i first n b₀ m r
+    thread-again {r} {m} {ls′} {hs′} l g q = let s = c .sweeps in record { sweeps = record { some = s .some; brace = s .brace; ends = s .ends; walk = walk-on (s .walk) l q; left = λ v z. onto (member-past (s .left v z) l) }; few = c .few; links = g .links; heads = g .heads }
+      where
+        onto : {fields : Members} (u : MemberPast x t k n (Earlier x t first k b₀ b (Chains x t ls hs k) fields)) → MembersLeft x t m n (Earlier x t first m b₀ r (Chains x t ls′ hs′ m) fields)
+        onto u =
+            let e : k + 3 ≤ getD t (k + 3 + 2) 0 = omega (arith, u .more) in
+            rw q (member-over u (repeated-step {R = Chains x t ls′ hs′ (getD t (k + 3 + 2) 0)} u (g .is _ (u .holds .also)) (g .more _ (getD t (k + 3 + 2) 0) (u .holds .also) e)))
+
+    pub thread-done : n ≤ k → PartGives 6 own6 x t i b₀ b
+    thread-done h = sweep-done (c .sweeps) h
+
 pub ruleset names = (needs, name-first, first-first, first-low, name-second, name-some, name-span, name-low, compare-begin, compare-found, compare-done, repeat-none, repeat-found, walk-first, walk-second, walk-room, walk-some, walk-span, walk-less)
 
-pub ruleset sweeps = (needs, any-first, any-third, any-inside, repeated-none, sweep-begin, sweep-name, sweep-again, sweep-done, walk-less)
+pub ruleset sweeps = (needs, any-first, any-third, any-inside, repeated-none, sweep-begin, sweep-name, sweep-long, sweep-seen, sweep-again, sweep-done, walk-less, walk-room)
+
+pub ruleset threads = (needs, thread-third, thread-begin, thread-room, thread-less, thread-name, thread-again, thread-done)

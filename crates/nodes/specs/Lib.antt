@@ -6,3 +6,4 @@ pub mod Says
 pub mod Laws
 pub mod Examples
 pub mod Parts
+pub mod Chains

@@ -1,6 +1,6 @@
 // Nodes of the table of a JSON text: what stands at a node, what stands below it, and rules 5 and 6, which hold in every part of a text.
 // A fault is a rule with its place as one number; a function that looks for faults takes the least so far and gives the least.
-ghost use Prim.Native.Nat.{ℕ, _+_, _*_, _<_, _≤_, min};
+ghost use Prim.Native.Nat.{ℕ, _+_, _*_, _/_, _%_, _<_, _≤_, min};
 ghost use mathlib.Core.Bool.{Bool};
 ghost use mathlib.Core.List.{List, map};
 ghost use mathlib.Core.Path.{_≡_};
@@ -10,6 +10,8 @@ ghost use Rattle.nodes.specs.Faults.{fault, least};
 ghost use Rattle.nodes.specs.Everywhere.{rule5, rule6};
 ghost use Rattle.nodes.specs.Says.{Node, Root, Gives, Seeks};
 ghost use Rattle.nodes.specs.Parts.{AnyPart, PartGives, own5, own6, NameNode, Repeats, RepeatGives};
+ghost use Rattle.nodes.specs.Chains.{hashFrom, chainOf, ChainNode, InChain, ChainAt, ChainGives, LongObject};
+ghost use Rattle.strings.specs.Spans.{Span, decodeAt, ahead};
 
 // What a search gives: the node of what is sought, or that there is none.
 pub enum Found {
@@ -212,10 +214,147 @@ fn repeat_at(text: &[u8], table: &[u32], first: usize, k: usize, best: u32) -> u
     lesser(best, fault_at(6, place))
 }
 
-// Rule 6 at a node, if an object stands there: among its names.
-fn repeated_in(text: &[u8], table: &[u32], i: usize, best: u32) -> u32
-    requires { ⌜ AnyPart (now text) (now table) i ⌝ }
-    ensures { λ r. ⌜ PartGives 6 own6 (now (text .entry)) (now (table .entry)) i best r ⌝ }
+// A byte as a wider number.
+fn wide_byte(b: u8) -> u32
+    ensures { λ r. ⌜ r ≡ b ⌝ }
+{
+    b as u32
+}
+
+// The number of some bytes, with one byte more.
+fn mixed(h: u32, b: u8) -> u32
+    requires { ⌜ h < 65521 ⌝ }
+    ensures { λ r. ⌜ (r ≡ (h * 257 + b) % 65521) × (r < 65521) ⌝ }
+{
+    (h * 257 + wide_byte(b)) % 65521
+}
+
+// The number of the bytes that the cursor has ahead, where those before have the number `seed`.
+fn hash_ahead(text: &[u8], from: strings::Cursor, seed: u32) -> u32
+    requires { ⌜ (Span (now text) (from .at) (from .end)) × (seed < 65521) ⌝ }
+    ensures { λ r. ⌜ r ≡ hashFrom seed (ahead (now (text .entry)) from) ⌝ }
+{
+    let mut c = from;
+    let mut h = seed;
+    loop {
+        let s = strings::next(text, c);
+        let strings::Step::Byte(b, d) = s else {
+            return h;
+        };
+        h = mixed(h, b);
+        c = d;
+    }
+}
+
+// The number of the bytes that a string stands for.
+fn hash(text: &[u8], at: usize, end: usize) -> u32
+    requires { ⌜ Span (now text) at end ⌝ }
+    ensures { λ r. ⌜ r ≡ hashFrom 0 (decodeAt (now (text .entry)) at end) ⌝ }
+{
+    let mut i = at;
+    let mut h = 0;
+    while i < end {
+        let b = text[i];
+        if b == b'\\' {
+            return hash_ahead(
+                text,
+                strings::Cursor {
+                    at: i,
+                    end: end,
+                    word: 0,
+                    left: 0,
+                },
+                h,
+            );
+        }
+        h = mixed(h, b);
+        i += 1;
+    }
+    h
+}
+
+// The chain that a string goes to, of 4,096.
+fn chain_of(text: &[u8], at: usize, end: usize) -> usize
+    requires { ⌜ Span (now text) at end ⌝ }
+    ensures { λ r. ⌜ (r ≡ chainOf (decodeAt (now (text .entry)) at end)) × (r < 4096) ⌝ }
+{
+    let h = hash(text, at, end);
+    wide(h % 4096)
+}
+
+// The name before the one at node e in its chain, or 0 if there is none.
+fn link(links: &[u32; 32784], e: usize) -> usize
+    requires { ⌜ e < 98352 ⌝ }
+    ensures { λ r. ⌜ r ≡ getD (now (links .entry)) (e / 3) 0 ⌝ }
+{
+    wide(links[e / 3])
+}
+
+// Does the name at node k repeat one of the chain that begins with the name at node `head`?
+fn in_chain(text: &[u8], table: &[u32], links: &[u32; 32784], head: usize, k: usize) -> bool
+    requires { ⌜ ChainNode (now text) (now table) (now links) head k ⌝ }
+    ensures { λ r. ⌜ InChain (now (text .entry)) (now (table .entry)) (now (links .entry)) head k r ⌝ }
+{
+    let from = start(table, k);
+    let to = end(table, k);
+    let mut e = head;
+    while e != 0 {
+        let from2 = start(table, e);
+        let to2 = end(table, e);
+        if strings::same_string(text, from2 + 1, to2 - 1, from + 1, to - 1) {
+            return true;
+        }
+        e = link(links, e);
+    }
+    false
+}
+
+// Rule 6 at the name at node k, which is then the head of its chain.
+fn chain_at(
+    text: &[u8],
+    table: &[u32],
+    links: &mut [u32; 32784],
+    heads: &mut [u32; 4096],
+    k: usize,
+    best: u32,
+) -> u32
+    requires { ⌜ ChainAt (now text) (now table) (now links) (now heads) k ⌝ }
+    ensures { λ r. ⌜ ChainGives (now (text .entry)) (now (table .entry)) (now (links .entry)) (now (heads .entry)) (now (links .exit)) (now (heads .exit)) k best r ⌝ }
+{
+    let from = start(table, k);
+    let to = end(table, k);
+    let c = chain_of(text, from + 1, to - 1);
+    let head = heads[c];
+    let found = in_chain(text, table, links, wide(head), k);
+    links[k / 3] = head;
+    heads[c] = k as u32;
+    if !found {
+        return best;
+    }
+    lesser(best, fault_at(6, from))
+}
+
+// Rule 6 in the object at node i, by chains of its names.
+fn chained_in(text: &[u8], table: &[u32], links: &mut [u32; 32784], i: usize, best: u32) -> u32
+    requires { ⌜ LongObject (now text) (now table) (now links) i ⌝ }
+    ensures { λ r. ⌜ (PartGives 6 own6 (now (text .entry)) (now (table .entry)) i best r) × (length (now (links .exit)) ≡ 32784) ⌝ }
+{
+    let n = next(table, i);
+    let first = i + 3;
+    let mut heads: [u32; 4096] = [0; 4096];
+    let mut least = best;
+    let mut k = first;
+    while k < n {
+        least = chain_at(text, table, links, &mut heads, k, least);
+        k = next(table, k + 3);
+    }
+    least
+}
+
+// Rule 6 at a node, if an object stands there: among its names. Where there are more than 16, by chains.
+fn repeated_in(text: &[u8], table: &[u32], links: &mut [u32; 32784], i: usize, best: u32) -> u32
+    requires { ⌜ (AnyPart (now text) (now table) i) × (length (now links) ≡ 32784) ⌝ }
+    ensures { λ r. ⌜ (PartGives 6 own6 (now (text .entry)) (now (table .entry)) i best r) × (length (now (links .exit)) ≡ 32784) ⌝ }
 {
     let at = start(table, i);
     if text[at] != b'{' {
@@ -224,9 +363,16 @@ fn repeated_in(text: &[u8], table: &[u32], i: usize, best: u32) -> u32
     let n = next(table, i);
     let first = i + 3;
     let mut least = best;
+    let mut seen: usize = 0;
     let mut k = first;
     while k < n {
+        if seen == 16 {
+            if n <= 98352 {
+                return chained_in(text, table, links, i, best);
+            }
+        }
         least = repeat_at(text, table, first, k, least);
+        seen += 1;
         k = next(table, k + 3);
     }
     least
@@ -237,10 +383,11 @@ pub fn repeated(text: &[u8], table: &[u32], n: usize, best: u32) -> u32
     requires { ⌜ Root (now text) (now table) n ⌝ }
     ensures { λ r. ⌜ Gives (λ v. least best (map (fault 6) (rule6 v))) (now (text .entry)) (now (table .entry)) 0 r ⌝ }
 {
+    let mut links: [u32; 32784] = [0; 32784];
     let mut least = best;
     let mut k = 0;
     while k < n {
-        least = repeated_in(text, table, k, least);
+        least = repeated_in(text, table, &mut links, k, least);
         k += 3;
     }
     least
