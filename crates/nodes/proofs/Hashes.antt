@@ -4,11 +4,11 @@ use mathlib.Core.Path.{_≡_, refl, sym, ap, _∙_}
 use mathlib.Core.List.{List, [], _∷_}
 use native.Mathlib.Numerals.{add-one}
 use native.Mathlib.Omega.{arith}
-use lib.ListN.{length, getD, take, drop-of-length-le}
+use lib.ListN.{getD, take, drop-of-length-le}
 use lib.Seq.{slice, slice-cons, length-take-le}
 use borrow.Author.Needs.{needs}
 use borrow.Author.Tests.{ne-eqb}
-use Rattle.strings.specs.Strings.{plain, next, ended, pieces, decoded, decode}
+use Rattle.strings.specs.Strings.{next, ended, pieces, decoded, decode}
 use Rattle.strings.specs.Spans.{Span, decodeAt, ahead, away, Steps, Hands}
 use Rattle.strings.specs.Laws.{ahead-start, decoded-anywhere}
 use Rattle.strings.specs.declared.Cursor.{Cursor}

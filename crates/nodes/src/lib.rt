@@ -334,7 +334,7 @@ fn chain_at(
     lesser(best, fault_at(6, from))
 }
 
-// Rule 6 in the object at node i, by chains of its names.
+// Rule 6 in the object at node i, by chains of its names: a name is compared with those of its own chain alone.
 fn chained_in(text: &[u8], table: &[u32], links: &mut [u32; 32784], i: usize, best: u32) -> u32
     requires { ⌜ LongObject (now text) (now table) (now links) i ⌝ }
     ensures { λ r. ⌜ (PartGives 6 own6 (now (text .entry)) (now (table .entry)) i best r) × (length (now (links .exit)) ≡ 32784) ⌝ }
@@ -351,7 +351,7 @@ fn chained_in(text: &[u8], table: &[u32], links: &mut [u32; 32784], i: usize, be
     least
 }
 
-// Rule 6 at a node, if an object stands there: among its names. Where there are more than 16, by chains.
+// Rule 6 at a node, if an object stands there: among its names. The first 16 are compared with all before them; if there are more, all names go into chains, if there is a link for each node.
 fn repeated_in(text: &[u8], table: &[u32], links: &mut [u32; 32784], i: usize, best: u32) -> u32
     requires { ⌜ (AnyPart (now text) (now table) i) × (length (now links) ≡ 32784) ⌝ }
     ensures { λ r. ⌜ (PartGives 6 own6 (now (text .entry)) (now (table .entry)) i best r) × (length (now (links .exit)) ≡ 32784) ⌝ }

@@ -1,6 +1,5 @@
 -- `nodes::chain_at` meets its contract. Assumes nothing.
-use native.Mathlib.Omega.{arith}
-use Rattle.nodes.proofs.Links.{name-fits, chain-none, chain-found, links}
+use Rattle.nodes.proofs.Links.{chain-none, chain-found, links}
 use Rattle.nodes.proofs.chain_at.Statement.{statement}
 use Rattle.nodes.proofs.chain_at.Tie as tie
 
