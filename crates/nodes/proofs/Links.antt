@@ -17,23 +17,7 @@ use Rattle.nodes.specs.Everywhere.{among}
 use Rattle.nodes.specs.Laws.{StringAt}
 use Rattle.nodes.specs.Parts.{textAt}
 use Rattle.nodes.specs.Chains.{chainOf, kept, Link, Chained, end, link, Chains, ChainNode, InChain, ChainAt, ChainGives}
-
--- a string at a node, as the code reads it
-module _ {x t : List ℕ} {k : ℕ} {raw : List ℕ} (s : StringAt x t k raw) where
-  string-first : k < length t
-  string-first = omega (arith, s .room)
-
-  string-second : k + 1 < length t
-  string-second = omega (arith, s .room)
-
-  string-some : {e : ℕ} → e ≡ getD t (k + 1) 0 → 1 ≤ e
-  string-some q = rw q (s .some)
-
-  string-fits : {p : ℕ} → p ≡ getD t k 0 → p + 1 ≤ length x
-  string-fits q = rw q (s .fits)
-
-  string-span : {p e : ℕ} → p ≡ getD t k 0 → e ≡ getD t (k + 1) 0 → Span x (p + 1) (e - 1)
-  string-span q r = rw (q, r) (s .span)
+use Rattle.nodes.proofs.Loops.{string-first, string-second, string-some, string-fits, string-span, string-low}
 
 -- what is left of a chain with the texts us, where the code has come to the node e
 record Rest (x t ls : List ℕ) (k e : ℕ) (us : List (List ℕ)) : Type 0 where
@@ -70,21 +54,6 @@ finished {x} {t} {ls} {k} {e} {us} r z = go (r .chain) (r .holds)
     go (link l c) h = absurd (omega (arith, l .back))
 
 module _ {x t ls : List ℕ} {head k : ℕ} where
-  pub node-first : ChainNode x t ls head k → k < length t
-  node-first d = string-first (d .string)
-
-  pub node-second : ChainNode x t ls head k → k + 1 < length t
-  node-second d = string-second (d .string)
-
-  pub node-some : {e : ℕ} → ChainNode x t ls head k → e ≡ getD t (k + 1) 0 → 1 ≤ e
-  node-some d q = string-some (d .string) q
-
-  pub node-fits : {p : ℕ} → ChainNode x t ls head k → p ≡ getD t k 0 → p + 1 ≤ length x
-  node-fits d q = string-fits (d .string) q
-
-  pub node-span : {p e : ℕ} → ChainNode x t ls head k → p ≡ getD t k 0 → e ≡ getD t (k + 1) 0 → Span x (p + 1) (e - 1)
-  node-span d q r = string-span (d .string) q r
-
   pub follow-begin : ChainNode x t ls head k → Follows x t ls head k head
   follow-begin d = record { node = d; left = λ us c. record { texts = us; chain = c; holds = refl } }
 
@@ -180,24 +149,6 @@ module _ {x t ls hs : List ℕ} {k c : ℕ} {us : List (List ℕ)} (s : Chains x
 
 -- the name at the node k, and what the code finds of it
 module _ {x t ls hs : List ℕ} {k : ℕ} (d : ChainAt x t ls hs k) where
-  pub name-first : k < length t
-  name-first = string-first (d .string)
-
-  pub name-second : k + 1 < length t
-  name-second = string-second (d .string)
-
-  pub name-some : {e : ℕ} → e ≡ getD t (k + 1) 0 → 1 ≤ e
-  name-some q = string-some (d .string) q
-
-  pub name-fits : {p : ℕ} → p ≡ getD t k 0 → p + 1 ≤ length x
-  name-fits q = string-fits (d .string) q
-
-  pub name-span : {p e : ℕ} → p ≡ getD t k 0 → e ≡ getD t (k + 1) 0 → Span x (p + 1) (e - 1)
-  name-span q r = string-span (d .string) q r
-
-  pub name-low : {p : ℕ} → p ≡ getD t k 0 → p ≤ 65535
-  name-low q = omega (arith, d .string .fits, d .short)
-
   pub name-node : {c h : ℕ} → h ≡ getD hs c 0 → c < 4096 → ChainNode x t ls h k
   name-node {c} {h} q l = record { texts = kept c (d .texts); chain = rw q (d .chains .chain c l); raw = d .raw; string = d .string }
 
@@ -220,6 +171,6 @@ module _ {x t ls hs : List ℕ} {k : ℕ} (d : ChainAt x t ls hs k) where
     unfolding least
     chain-found {b} {u} {v} e i j = gives (λ us s. rw (found us s, not-false f e) (j ∙ (ap (min b) i ∙ ap (λ (a : ℕ). min b (fault 6 a)) y)))
 
-pub ruleset follows = (needs, node-first, node-second, node-some, node-span, follow-begin, follow-first, follow-second, follow-some, follow-span, follow-room, follow-less, follow-found, follow-done)
+pub ruleset follows = (needs, string-first, string-second, string-some, string-span, follow-begin, follow-first, follow-second, follow-some, follow-span, follow-room, follow-less, follow-found, follow-done)
 
-pub ruleset links = (needs, name-first, name-second, name-some, name-span, name-low, name-node, chain-none, chain-found)
+pub ruleset links = (needs, string-first, string-second, string-some, string-span, string-low, name-node)

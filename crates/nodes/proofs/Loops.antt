@@ -20,6 +20,26 @@ use Rattle.nodes.specs.declared.Found.the-variants.{At, Nothing}
 use Rattle.nodes.specs.Laws.{StringAt, quoted-at, elements-begin, fields-begin, no-elements, no-members}
 use Rattle.nodes.proofs.Firsts.{node-room, node-first, node-inside}
 
+-- a string at a node, as the code reads it
+module _ {x t : List ℕ} {k : ℕ} {raw : List ℕ} (s : StringAt x t k raw) where
+  pub string-first : k < length t
+  string-first = omega (arith, s .room)
+
+  pub string-second : k + 1 < length t
+  string-second = omega (arith, s .room)
+
+  pub string-some : {e : ℕ} → e ≡ getD t (k + 1) 0 → 1 ≤ e
+  string-some q = rw q (s .some)
+
+  pub string-fits : {p : ℕ} → p ≡ getD t k 0 → p + 1 ≤ length x
+  string-fits q = rw q (s .fits)
+
+  pub string-span : {p e : ℕ} → p ≡ getD t k 0 → e ≡ getD t (k + 1) 0 → Span x (p + 1) (e - 1)
+  string-span q r = rw (q, r) (s .span)
+
+  pub string-low : {p : ℕ} → length x ≤ 65535 → p ≡ getD t k 0 → p ≤ 65535
+  string-low h q = omega (arith, s .fits)
+
 -- Counting: of the elements of the array at i, `found` stand before k
 pub record Counts (x t : List ℕ) (i n k found : ℕ) : Type 0 where
   pub node : Node x t i
@@ -76,22 +96,22 @@ module _ {x t : List ℕ} {n k : ℕ} (c : Walk x t n k) where
   walk-string l = quoted-at (walk-past l .quoted)
 
   pub walk-first : k < n → k < length t
-  walk-first l = omega (arith, walk-string l .room)
+  walk-first l = string-first (walk-string l)
 
   pub walk-second : k < n → k + 1 < length t
-  walk-second l = omega (arith, walk-string l .room)
+  walk-second l = string-second (walk-string l)
 
   pub walk-room : k < n → k + 3 + 2 < length t
   walk-room l = walk-past l .word .room
 
   pub walk-some : {e : ℕ} → k < n → e ≡ getD t (k + 1) 0 → 1 ≤ e
-  walk-some l q = rw q (walk-string l .some)
+  walk-some l q = string-some (walk-string l) q
 
   pub walk-fits : {p : ℕ} → k < n → p ≡ getD t k 0 → p + 1 ≤ length x
-  walk-fits l q = rw q (walk-string l .fits)
+  walk-fits l q = string-fits (walk-string l) q
 
   pub walk-span : {p e : ℕ} → k < n → p ≡ getD t k 0 → e ≡ getD t (k + 1) 0 → Span x (p + 1) (e - 1)
-  walk-span l q r = rw (q, r) (walk-string l .span)
+  walk-span l q r = string-span (walk-string l) q r
 
   pub walk-less : {m : ℕ} → k < n → m ≡ getD t (k + 3 + 2) 0 → n - m < n - k
   walk-less l q = let u = walk-past l in omega (arith, u .more, u .within)

@@ -10,7 +10,7 @@ use borrow.Author.Needs.{needs}
 use borrow.Author.Tests.{eq-eqb, ne-eqb, not-true, not-false}
 use Rattle.utf8.specs.Utf8.{same}
 use Rattle.strings.specs.Strings.{decode}
-use Rattle.strings.specs.Spans.{Span, decodeAt}
+use Rattle.strings.specs.Spans.{decodeAt}
 use Rattle.json.specs.Tree.{Json, Members, member, with, Name}
 use Rattle.json.specs.Tree as tree
 use Rattle.json.specs.Table.{widths, Quoted, Sub, Fields, last, field}
@@ -22,7 +22,7 @@ use Rattle.nodes.specs.Laws.{quoted-at, kinds, fieldsOf, object-begin, n
 use Rattle.nodes.specs.Parts.{Part, value, Stands, of-value, of-name, own6, AnyPart, PartGives, earlier, textAt, NameNode, Repeats, RepeatGives}
 use Rattle.nodes.specs.Chains.{Chains, ChainAt, ChainGives, LongObject}
 use Rattle.nodes.proofs.Links.{chains-begin}
-use Rattle.nodes.proofs.Loops.{Walk, walk-of, walk-on, walk-first, walk-second, walk-room, walk-some, walk-span, walk-less}
+use Rattle.nodes.proofs.Loops.{string-first, string-second, string-some, string-span, string-low, Walk, walk-of, walk-on, walk-first, walk-second, walk-room, walk-some, walk-span, walk-less}
 use Rattle.nodes.proofs.Rule5.{any-first, any-third, any-inside}
 
 -- is a text among the names of some members, in their order?
@@ -58,24 +58,6 @@ pub record Compares (x t : List ℕ) (first k j : ℕ) : Type 0 where
   left : (ms : Members) → Fields x t first ms → first + widths ms ≡ k → MembersLeft x t j k (λ os. among (earlier [] ms) (textAt x t k) ≡ named os (textAt x t k))
 
 module _ {x t : List ℕ} {first k : ℕ} where
-  pub name-first : NameNode x t first k → k < length t
-  name-first d = omega (arith, d .string .room)
-
-  pub name-second : NameNode x t first k → k + 1 < length t
-  name-second d = omega (arith, d .string .room)
-
-  pub name-some : {e : ℕ} → NameNode x t first k → e ≡ getD t (k + 1) 0 → 1 ≤ e
-  name-some d q = rw q (d .string .some)
-
-  pub name-fits : {p : ℕ} → NameNode x t first k → p ≡ getD t k 0 → p + 1 ≤ length x
-  name-fits d q = rw q (d .string .fits)
-
-  pub name-span : {p e : ℕ} → NameNode x t first k → p ≡ getD t k 0 → e ≡ getD t (k + 1) 0 → Span x (p + 1) (e - 1)
-  name-span d q r = rw (q, r) (d .string .span)
-
-  pub name-low : {p : ℕ} → NameNode x t first k → p ≡ getD t k 0 → p ≤ 65535
-  name-low d q = omega (arith, d .string .fits, d .short)
-
   -- the first of the names has its node in the table and its place in the text too
   pub first-first : NameNode x t first k → first < length t
   first-first d = omega (arith, d .string .room, d .ends)
@@ -85,7 +67,7 @@ module _ {x t : List ℕ} {first k : ℕ} where
   first-low {p} d q = go (d .stand) (d .ends)
     where
       go : {ms : Members} → Fields x t first ms → first + widths ms ≡ k → p ≤ 65535
-      go last e = let z : first ≡ k = omega arith in name-low d (q ∙ ap (λ (m : ℕ). getD t m 0) z)
+      go last e = let z : first ≡ k = omega arith in string-low (d .string) (d .short) (q ∙ ap (λ (m : ℕ). getD t m 0) z)
       go (field f s fs) e = omega (arith, f .words .start, f .words .some, f .words .inside, d .short)
 
   pub compare-begin : NameNode x t first k → Compares x t first k first
@@ -220,9 +202,15 @@ module _ {x t : List ℕ} {i : ℕ} where
         done (of-value {v = v} s) = members-ended (c .left v s) h .holds
         done (of-name q) = absurd (no-name (c .brace) q)
 
+  -- past one name
+  again : {first n b₀ k b r m : ℕ} {Q R : List (List ℕ) → Type 0} → Sweeps x t i first n b₀ k b Q → k < n → m ≡ getD t (k + 3 + 2) 0 → ((ms : Members) → Fields x t first ms → first + widths ms ≡ k → Q (earlier [] ms) → Least x t k b r (earlier [] ms) × R (textAt x t k ∷ earlier [] ms)) → Sweeps x t i first n b₀ m r R
+  again {first} {n} {b₀} {k} {b} {r} {m} {Q} {R} c l q g = record { some = c .some; brace = c .brace; ends = c .ends; walk = walk-on (c .walk) l q; left = λ v s. onto (member-past (c .left v s) l) }
+    where
+      onto : {fields : Members} (u : MemberPast x t k n (Earlier x t first k b₀ b Q fields)) → MembersLeft x t m n (Earlier x t first m b₀ r R fields)
+      onto u = let o = u .holds in let e = g (o .before) (o .stand) (o .ends) (o .also) in rw q (member-over u (repeated-step u (e .0) (e .1)))
+
   pub sweep-again : {first n b₀ k b r m : ℕ} → Sweeps x t i first n b₀ k b Any → k < n → RepeatGives x t first k b r → m ≡ getD t (k + 3 + 2) 0 → Sweeps x t i first n b₀ m r Any
-  sweep-again c l g q =
-      record { some = c .some; brace = c .brace; ends = c .ends; walk = walk-on (c .walk) l q; left = λ v s. let u = member-past (c .left v s) l in rw q (member-over u (repeated-step u (g .is (u .holds .before) (u .holds .stand) (u .holds .ends)) tt)) }
+  sweep-again c l g q = again c l q (λ ms f e z. (g .is ms f e, tt))
 
 -- the same loop by chains
 pub record Threads (x t ls hs : List ℕ) (i first n b₀ k b : ℕ) : Type 0 where
@@ -237,38 +225,23 @@ getD-replicate zero (suc n) = refl
 getD-replicate (suc c) (suc n) = getD-replicate c n
 
 module _ {x t : List ℕ} {i : ℕ} where
-  pub thread-third : {ls : List ℕ} → LongObject x t ls i → i + 2 < length t
-  thread-third d = any-third (d .some)
-
   pub thread-begin : {n : ℕ} (b : ℕ) {ls : List ℕ} (hs : List ℕ) → LongObject x t ls i → n ≡ getD t (i + 2) 0 → hs ≡ replicate 4096 0 → Threads x t ls hs i (i + 3) n b (i + 3) b
   thread-begin b {ls} hs d o z =
       record { sweeps = begin b (d .some) refl (d .brace) o (chains-begin x t ls hs (i + 3) (λ c. ap (λ (l : List ℕ). getD l c 0) z ∙ getD-replicate c 4096) (omega arith)); few = rw o (d .ends); links = d .links; heads = ap length z ∙ length-replicate {A = ℕ} 4096 0 }
 
   module _ {first n b₀ k b : ℕ} {ls hs : List ℕ} (c : Threads x t ls hs i first n b₀ k b) where
-    pub thread-room : k < n → k + 3 + 2 < length t
-    thread-room l = walk-room (c .sweeps .walk) l
-
-    pub thread-less : {m : ℕ} → k < n → m ≡ getD t (k + 3 + 2) 0 → n - m < n - k
-    thread-less l q = walk-less (c .sweeps .walk) l q
-
     pub thread-name : k < n → ChainAt x t ls hs k
     thread-name l =
         let u = turn (c .sweeps) l in
         record { texts = earlier [] (u .holds .before); chains = u .holds .also; raw = u .key .raw; string = quoted-at (u .quoted); short = c .sweeps .some .short; inside = omega (arith, c .few); links = c .links; heads = c .heads }
 
     pub thread-again : {r m : ℕ} {ls′ hs′ : List ℕ} → k < n → ChainGives x t ls hs ls′ hs′ k b r → m ≡ getD t (k + 3 + 2) 0 → Threads x t ls′ hs′ i first n b₀ m r
-    thread-again {r} {m} {ls′} {hs′} l g q = let s = c .sweeps in record { sweeps = record { some = s .some; brace = s .brace; ends = s .ends; walk = walk-on (s .walk) l q; left = λ v z. onto (member-past (s .left v z) l) }; few = c .few; links = g .links; heads = g .heads }
-      where
-        onto : {fields : Members} (u : MemberPast x t k n (Earlier x t first k b₀ b (Chains x t ls hs k) fields)) → MembersLeft x t m n (Earlier x t first m b₀ r (Chains x t ls′ hs′ m) fields)
-        onto u =
-            let e : k + 3 ≤ getD t (k + 3 + 2) 0 = omega (arith, u .more) in
-            rw q (member-over u (repeated-step {R = Chains x t ls′ hs′ (getD t (k + 3 + 2) 0)} u (g .is _ (u .holds .also)) (g .more _ (getD t (k + 3 + 2) 0) (u .holds .also) e)))
+    thread-again {m = m} l g q =
+        let h : k + 3 ≤ m = omega (arith, turn (c .sweeps) l .word .next) in
+        record { sweeps = again (c .sweeps) l q (λ ms f e z. (g .is _ z, g .more _ m z h)); few = c .few; links = g .links; heads = g .heads }
 
-    pub thread-done : n ≤ k → PartGives 6 own6 x t i b₀ b
-    thread-done h = sweep-done (c .sweeps) h
+pub ruleset names = (needs, string-first, first-first, first-low, string-second, string-some, string-span, string-low, compare-begin, compare-found, compare-done, repeat-none, repeat-found, walk-first, walk-second, walk-room, walk-some, walk-span, walk-less)
 
-pub ruleset names = (needs, name-first, first-first, first-low, name-second, name-some, name-span, name-low, compare-begin, compare-found, compare-done, repeat-none, repeat-found, walk-first, walk-second, walk-room, walk-some, walk-span, walk-less)
+pub ruleset sweeps = (needs, any-first, any-third, any-inside, repeated-none, sweep-begin, sweep-name, sweep-long, sweep-seen, sweep-again, sweep-done, walk-less)
 
-pub ruleset sweeps = (needs, any-first, any-third, any-inside, repeated-none, sweep-begin, sweep-name, sweep-long, sweep-seen, sweep-again, sweep-done, walk-less, walk-room)
-
-pub ruleset threads = (needs, thread-third, thread-begin, thread-room, thread-less, thread-name, thread-again, thread-done)
+pub ruleset threads = (needs, any-third, thread-begin, thread-name, thread-again, sweep-done, walk-less)

@@ -1,7 +1,9 @@
 -- `nodes::chained_in` meets its contract. Assumes nothing.
 use Prim.Native.Nat.{_-_}
 use native.Mathlib.Omega.{arith}
-use Rattle.nodes.proofs.Rule6.{Threads, thread-third, thread-room, threads}
+use Rattle.nodes.proofs.Loops.{walk-room}
+use Rattle.nodes.proofs.Rule5.{any-third}
+use Rattle.nodes.proofs.Rule6.{Threads, threads}
 use Rattle.nodes.proofs.chained_in.Statement.{statement}
 use Rattle.nodes.proofs.chained_in.Tie as tie
 
@@ -12,10 +14,10 @@ abbrev μ-loop : tie.MeasureT-loop
 μ-loop text table links₀ i best n first heads₀ least₀ k₀ links heads least k = n - k
 
 add-first : tie.Need-add-first Inv-loop μ-loop
-add-first c = omega (arith, thread-third (c .before .before .before .pre))
+add-first c = omega (arith, any-third (c .before .before .before .pre .some))
 
 add-next : tie.Need-add-next Inv-loop μ-loop
-add-next c = omega (arith, thread-room (c .before .before .before .before .loop .inv) (c .before .before .before .loop-test .taken))
+add-next c = omega (arith, walk-room (c .before .before .before .before .loop .inv .sweeps .walk) (c .before .before .before .loop-test .taken))
 
 pub chained-in-spec : {M : Type 1} → statement M
 chained-in-spec =
@@ -28,7 +30,7 @@ chained-in-spec =
     (λ c. search threads)
     (λ c κs. search threads)
     add-next
-    (λ c κs. search threads)
+    (λ c κs. walk-room (c .before .before .before .before .loop .inv .sweeps .walk) (c .before .before .before .loop-test .taken))
     (λ c. search threads)
     (λ c. search threads)
     (λ c. search threads))

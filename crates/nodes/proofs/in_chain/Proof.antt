@@ -1,6 +1,7 @@
 -- `nodes::in_chain` meets its contract. Assumes nothing.
 use native.Mathlib.Omega.{arith}
-use Rattle.nodes.proofs.Links.{Follows, node-fits, follow-fits, follow-again, follows}
+use Rattle.nodes.proofs.Loops.{string-fits}
+use Rattle.nodes.proofs.Links.{Follows, follow-fits, follow-again, follows}
 use Rattle.nodes.proofs.in_chain.Statement.{statement}
 use Rattle.nodes.proofs.in_chain.Tie as tie
 
@@ -14,7 +15,7 @@ add-same-string : tie.Need-add-same-string Inv-loop μ-loop
 add-same-string c = omega (arith, follow-fits (c .before .before .before .loop .inv) (c .before .before .loop-test .taken) (c .before .start2 .ensures))
 
 add-same-string-2 : tie.Need-add-same-string-2 Inv-loop μ-loop
-add-same-string-2 c = omega (arith, node-fits (c .before .before .before .loop .inv .node) (c .before .before .before .before .before .start .ensures))
+add-same-string-2 c = omega (arith, string-fits (c .before .before .before .loop .inv .node .string) (c .before .before .before .before .before .start .ensures))
 
 loop-again : tie.Need-loop-again Inv-loop μ-loop
 loop-again c =

@@ -1,8 +1,8 @@
 -- `nodes::repeats` meets its contract. Assumes nothing.
 use Prim.Native.Nat.{_-_}
 use native.Mathlib.Omega.{arith}
-use Rattle.nodes.proofs.Loops.{walk-fits, walk-room}
-use Rattle.nodes.proofs.Rule6.{Compares, name-fits, compare-again, names}
+use Rattle.nodes.proofs.Loops.{string-fits, walk-fits, walk-room}
+use Rattle.nodes.proofs.Rule6.{Compares, compare-again, names}
 use Rattle.nodes.proofs.repeats.Statement.{statement}
 use Rattle.nodes.proofs.repeats.Tie as tie
 
@@ -16,7 +16,7 @@ add-same-string : tie.Need-add-same-string Inv-loop μ-loop
 add-same-string c = omega (arith, walk-fits (c .before .before .before .loop .inv .walk) (c .before .before .loop-test .taken) (c .before .start2 .ensures))
 
 add-same-string-2 : tie.Need-add-same-string-2 Inv-loop μ-loop
-add-same-string-2 c = omega (arith, name-fits (c .before .before .before .loop .inv .node) (c .before .before .before .before .before .start .ensures))
+add-same-string-2 c = omega (arith, string-fits (c .before .before .before .loop .inv .node .string) (c .before .before .before .before .before .start .ensures))
 
 add-next : tie.Need-add-next Inv-loop μ-loop
 add-next c = omega (arith, walk-room (c .before .before .before .before .before .loop .inv .walk) (c .before .before .before .before .loop-test .taken))
