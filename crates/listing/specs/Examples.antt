@@ -1,0 +1,33 @@
+-- The lines that document 01 shows, computed. Assumes nothing.
+use mathlib.Core.Path.{_≡_, refl}
+use mathlib.Core.List.{List, [], _∷_, _++_}
+use Prim.Native.Nat.{ℕ}
+use Prim.Native.String.{String}
+use Rattle.utf8.specs.Ascii.{ascii}
+use Rattle.sheets.specs.Laid.{laid, refused}
+use Rattle.listing.specs.Line.{lineOf}
+
+-- a line and its line feed
+ended : String → List ℕ
+unfolding ascii
+ended line = ascii line ++ (10 ∷ [])
+
+-- for the minimal object
+minimal : lineOf (laid 78 0) ≡ ended "laid 78 bytes, objects 0"
+unfolding lineOf ended
+minimal = refl
+
+-- for `{}`
+empty-object : lineOf (refused 8 0) ≡ ended "refused 8 at 0"
+unfolding lineOf ended
+empty-object = refl
+
+-- for a text that is too long
+too-long : lineOf (refused 1 65535) ≡ ended "refused 1 at 65535"
+unfolding lineOf ended
+too-long = refl
+
+-- zeros within and at the end of a number
+zeros : lineOf (laid 10203 1000) ≡ ended "laid 10203 bytes, objects 1000"
+unfolding lineOf ended
+zeros = refl

@@ -1,0 +1,84 @@
+// The line that the lister prints for a text.
+ghost use Prim.Native.Nat.{_+_, _≤_};
+ghost use mathlib.Core.Path.{_≡_};
+ghost use mathlib.Core.List.{_++_};
+ghost use lib.ListN.{length, drop};
+ghost use Rattle.io.specs.Counts.{Counts};
+ghost use Rattle.sheets.specs.Laid.{answer, laid, refused};
+ghost use Rattle.kebrawish.specs.Answers.{answered};
+ghost use Rattle.writer.specs.Writes.{Writes};
+ghost use Rattle.listing.specs.Line.{lineOf, Spells, Lists};
+use kebrawish::Answer;
+
+// Writes bytes from a cursor on, as the functions of `writer` do.
+fn put(bytes: &[u8], out: &mut [u8], at: usize) -> usize
+    ensures { λ r. ⌜ Writes (now (bytes .entry)) (now (out .entry)) (now (out .exit)) at r ⌝ }
+{
+    let end = writer::skip(at, bytes.len());
+    if end > out.len() {
+        return end;
+    }
+    let mut i = 0;
+    while i < bytes.len() {
+        out[at + i] = bytes[i];
+        i += 1;
+    }
+    end
+}
+
+// Writes a number in decimal digits.
+fn number(n: u64, out: &mut [u8], at: usize) -> usize
+    ensures { λ r. ⌜ Spells n (now (out .entry)) (now (out .exit)) at r ⌝ }
+{
+    let mut digits = [0u8; 20];
+    let k = io::decimal(n, &mut digits);
+    put(&digits[..k], out, at)
+}
+
+// The line of a text that is laid.
+fn laid_line(size: usize, objects: usize, out: &mut [u8; 64]) -> usize
+    ensures { λ r. ⌜ Lists (lineOf (laid size objects)) (now (out .entry)) (now (out .exit)) r ⌝ }
+{
+    let room: &mut [u8] = out;
+    let a = put(b"laid ", room, 0);
+    let b = number(size as u64, room, a);
+    let c = put(b" bytes, objects ", room, b);
+    let d = number(objects as u64, room, c);
+    put(b"\n", room, d)
+}
+
+// The line of a text that is refused.
+fn refused_line(rule: u32, place: usize, out: &mut [u8; 64]) -> usize
+    ensures { λ r. ⌜ Lists (lineOf (refused rule place)) (now (out .entry)) (now (out .exit)) r ⌝ }
+{
+    let room: &mut [u8] = out;
+    let a = put(b"refused ", room, 0);
+    let b = number(rule as u64, room, a);
+    let c = put(b" at ", room, b);
+    let d = number(place as u64, room, c);
+    put(b"\n", room, d)
+}
+
+// The line of an answer.
+fn line(answer: Answer, out: &mut [u8; 64]) -> usize
+    ensures { λ r. ⌜ Lists (lineOf (answered answer)) (now (out .entry)) (now (out .exit)) r ⌝ }
+{
+    match answer {
+        Answer::Laid(size, objects) => laid_line(size, objects, out),
+        Answer::Refused(refusal) => {
+            let rule = refusal.rule;
+            refused_line(kebrawish::number_of(rule), refusal.place, out)
+        }
+    }
+}
+
+// Lays a text in a sheet of 65,536 bytes, puts the line that says what became of it at the start of out, and answers the line's length. The bytes after the line are as they were.
+pub fn list(text: &[u8], out: &mut [u8; 64]) -> usize
+    ensures { λ r. ⌜ r ≡ length (lineOf (answer (now (text .entry)) 65536)) ⌝ }
+    ensures { λ r. ⌜ now (out .exit) ≡ lineOf (answer (now (text .entry)) 65536) ++ drop r (now (out .entry)) ⌝ }
+    ensures { λ r. ⌜ Counts r (now (out .exit)) ⌝ }
+{
+    let mut sheet = [0u8; 65536];
+    let answer = kebrawish::lay(text, &mut sheet);
+    line(answer, out)
+}
