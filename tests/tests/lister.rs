@@ -101,7 +101,10 @@ fn long_texts() {
     assert_eq!(print(TEXT_LIMIT + 1), "refused 1 at 65535\n");
     assert_eq!(print(TEXT_LIMIT + 2), "refused 1 at 65535\n");
     assert_eq!(print(200_000), "refused 1 at 65535\n");
-    assert_eq!(line(&vec![0xFF; 65_536], usize::MAX), "refused 1 at 65535\n");
+    assert_eq!(
+        line(&vec![0xFF; 65_536], usize::MAX),
+        "refused 1 at 65535\n"
+    );
     assert_eq!(line(&vec![0xFF; 65_535], usize::MAX), "refused 2 at 0\n");
 }
 
