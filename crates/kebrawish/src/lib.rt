@@ -237,9 +237,9 @@ fn lay_table(text: &[u8], table: &[u32], n: usize, sheet: &mut [u8]) -> Answer
     ensures { λ r. ⌜ Lays (now (text .entry)) (parsed (read (now (text .entry)))) (now (sheet .entry)) (now (sheet .exit)) (answered r) ⌝ }
 {
     let walked = examine(text, table, n);
-    let least = walked.least;
-    if least < 1179648 {
-        return Answer::Refused(refuse_fault(least));
+    let fault = walked.least;
+    if fault < 1179648 {
+        return Answer::Refused(refuse_fault(fault));
     }
     let index = walked.index;
     let size = records::sheet(text, table, index, sheet);
