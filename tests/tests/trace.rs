@@ -54,8 +54,7 @@ fn exists(quoted: &str) -> Option<bool> {
         Ok(text) => text,
         Err(_) => folder(&root().join(format!("crates/{place}/src"))),
     };
-    let to_come = ["records::sheet", "kebrawish::lay"].contains(&quoted);
-    Some(text.contains(&format!("fn {name}(")) || (to_come && !cfg!(feature = "lay")))
+    Some(text.contains(&format!("fn {name}(")))
 }
 
 /// Whether some crate has an edit of this name.
@@ -84,7 +83,7 @@ fn every_name_exists() {
     let (builds, _) = builds.split_once("\n\n").expect("its end");
     for line in builds.lines() {
         let edits = line.split('|').nth(3).unwrap_or("");
-        for edit in quoted(edits).filter(|edit| *edit != "records") {
+        for edit in quoted(edits) {
             counts[1] += 1;
             if !is_edit(edit) {
                 wrong.push(edit.to_string());
