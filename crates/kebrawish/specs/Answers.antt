@@ -1,4 +1,4 @@
--- What judge answers, in document 01's numbers. Assumes nothing: these are definitions.
+-- What judge and lay answer, in document 01's numbers. Assumes nothing: these are definitions.
 use mathlib.Core.Path.{_≡_}
 use mathlib.Core.List.{List}
 use Prim.Native.Nat.{ℕ, _+_, _*_, _^_, _≤_}

@@ -1,2 +1,2 @@
--- What judge answers, in the paper's numbers.
+-- What judge and lay answer, in document 01's numbers.
 pub mod Answers

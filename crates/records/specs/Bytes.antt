@@ -1,8 +1,7 @@
 -- The bytes of the records of a value, of a part of a city model. Assumes nothing: these are definitions.
-use mathlib.Core.List.{List, [], _∷_, _++_, map}
+use mathlib.Core.List.{List, [], _++_, map}
 use mathlib.Core.Option.{Option, none, some}
 use Prim.Native.Nat.{ℕ}
-use lib.ListN.{length}
 use Rattle.json.specs.Tree.{Json}
 use Rattle.nodes.specs.Access.{Member, elements, nameOf, textOf, find}
 use Rattle.fields.specs.Fields.{textIn, typeText}

@@ -1,12 +1,11 @@
 -- What the writers ask of the values of a text; those of an accepted text are so (`Accepted`). Assumes nothing: these are definitions.
 use mathlib.Core.Path.{_≡_}
 use mathlib.Core.Bool.{true}
-use mathlib.Core.List.{List}
 use mathlib.Core.Option.{some}
 use Prim.Native.Nat.{ℕ}
 use Prim.Native.String.{String}
 use Rattle.json.specs.Tree.{Json}
-use Rattle.nodes.specs.Access.{isStringValue, Member, find}
+use Rattle.nodes.specs.Access.{isStringValue, find}
 use Rattle.words.specs.Words.{geometryWords, codeOf, isLod, depth, valuesDepth}
 use Rattle.fields.specs.Fields.{textIn, typeText, objectsOf}
 use Rattle.model.specs.Code.{All}

@@ -3,14 +3,13 @@ use mathlib.Core.Path.{_≡_, refl, sym, ap, _∙_}
 use mathlib.Core.List.{List, [], _∷_, _++_, map, append-assoc, append-nil}
 use mathlib.Core.Option.{Option, none, some, Option·map}
 use Prim.Native.Nat.{ℕ}
-use lib.ListN.{length}
 use Rattle.json.specs.Tree.{Json}
 use Rattle.nodes.specs.Access.{Member, elements, members, nameOf, textOf, find}
-use Rattle.fields.specs.Fields.{textIn, typeText, objectsOf}
+use Rattle.fields.specs.Fields.{textIn, objectsOf}
 use Rattle.words.specs.Words.{objectWords, geometryWords, codeOf, depth, valuesDepth}
 use Rattle.model.specs.Code.{le, signed, each}
 use Rattle.model.specs.Weigh.{each-each}
-use Rattle.model.specs.Model.{Semantics, Object, Rec, rec, layRec, layThree, layDecimal, lodCode, layNest, layValues, surfaceRecs, semanticsRecs, geometryRecs, objectRecs, modelRecs, layModel, numberOf, idsOf, numberObject, numberModel, sheetOf}
+use Rattle.model.specs.Model.{Rec, rec, layRec, layThree, layDecimal, lodCode, layNest, layValues, surfaceRecs, semanticsRecs, geometryRecs, objectRecs, modelRecs, layModel, numberOf, idsOf, numberObject, numberModel, sheetOf}
 use Rattle.model.specs.Read.{get, orNull, decimalOf, integerOf, indexOf, valueOf, threeOf, nestOf, lodOf, surfaceOf, semanticsOf, geometryOf, objectOf, modelOf}
 use Rattle.arrays.specs.Parts.{each-map}
 use Rattle.sheets.specs.Clear.{type-text, objects-members}
