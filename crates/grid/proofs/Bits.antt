@@ -1,0 +1,73 @@
+-- The rule of the bits of a byte, by a test that antt computes at each byte and each bit. Assumes nothing.
+use Prim.Native.Nat.{ℕ, zero, suc, _+_, _/_, _%_, _^_, _<_}
+use native.Mathlib.Omega.{arith}
+use mathlib.Core.Path.{_≡_, refl, sym}
+use mathlib.Core.Bool.{Bool, true, false, not, _&&_, _||_}
+use mathlib.Core.List.{List, [], _∷_}
+use lib.ListN.{getD}
+use lib.Dec.{eqb, ltb}
+use borrow.Author.Tests.{ltb-true, eqb-true}
+use Rattle.grid.specs.Grid.{bit}
+
+both-left : (a b : Bool) → (a && b) ≡ true → a ≡ true
+both-left true b e = refl
+both-left false b e = e
+
+both-right : (a b : Bool) → (a && b) ≡ true → b ≡ true
+both-right true b e = e
+both-right false true e = refl
+both-right false false e = e
+
+-- does a test pass at each of the n numbers from i on?
+abbrev each : (ℕ → Bool) → ℕ → ℕ → Bool
+each f i zero = true
+each f i (suc n) = f i && each f (suc i) n
+
+-- then it passes at one of them
+each-from : (f : ℕ → Bool) (i n k : ℕ) → each f i n ≡ true → k < n → f (i + k) ≡ true
+each-from f i zero k e h = absurd (omega arith)
+each-from f i (suc n) zero e h = let z : i + 0 ≡ i = omega arith in rw z (both-left (f i) _ e)
+each-from f i (suc n) (suc k) e h = let z : i + suc k ≡ suc i + k = omega arith in rw z (each-from f (suc i) n k (both-right (f i) _ e) (omega arith))
+
+each-below : (f : ℕ → Bool) (n k : ℕ) → each f 0 n ≡ true → k < n → f k ≡ true
+each-below f n k e h = let z : k ≡ 0 + k = omega arith in rw z (each-from f 0 n k e h)
+
+-- do two truth values agree?
+abbrev agree : Bool → Bool → Bool
+agree true b = b
+agree false b = not b
+
+agree-equal : (a b : Bool) → agree a b ≡ true → a ≡ b
+agree-equal true b e = sym e
+agree-equal false true e = e
+agree-equal false false e = refl
+
+-- is a byte whose bit k is not set a byte with that bit besides if 2 ^ k is added?
+abbrev adds : Bool → ℕ → ℕ → Bool
+adds true w k = true
+adds false w k = ltb (w + 2 ^ k) 256 && each (λ l. agree (bit (w + 2 ^ k) l) (eqb l k || bit w l)) 0 8
+
+unfoldable tested : Bool
+unfolding bit
+tested = each (λ w. each (λ k. adds (bit w k) w k) 0 8) 0 256
+
+all-tested : tested ≡ true
+unfolding tested
+all-tested = refl
+
+module _ (w k : ℕ) (b : w < 256) (h : k < 8) (e : bit w k ≡ false) where
+  added : adds false w k ≡ true
+  unfolding tested
+  added = rw e at (each-below (λ k. adds (bit w k) w k) 8 k (each-below (λ w. each (λ k. adds (bit w k) w k) 0 8) 256 w all-tested b) h)
+
+  -- a byte with one bit more is a byte
+  pub added-fits : w + 2 ^ k < 256
+  added-fits = ltb-true (w + 2 ^ k) 256 (both-left (ltb (w + 2 ^ k) 256) _ added)
+
+  -- and has the others as they were
+  pub added-bit : (l : ℕ) → l < 8 → bit (w + 2 ^ k) l ≡ (eqb l k || bit w l)
+  added-bit l m = agree-equal _ _ (each-below (λ l. agree (bit (w + 2 ^ k) l) (eqb l k || bit w l)) 8 l (both-right (ltb (w + 2 ^ k) 256) _ added) m)
+
+-- the table of the powers of two
+pub powers : (k : ℕ) → k < 8 → getD (1 ∷ 2 ∷ 4 ∷ 8 ∷ 16 ∷ 32 ∷ 64 ∷ 128 ∷ []) k 0 ≡ 2 ^ k
+powers k h = eqb-true _ _ (each-below (λ k. eqb (getD (1 ∷ 2 ∷ 4 ∷ 8 ∷ 16 ∷ 32 ∷ 64 ∷ 128 ∷ []) k 0) (2 ^ k)) 8 k refl h)

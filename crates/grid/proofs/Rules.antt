@@ -1,0 +1,6 @@
+-- What `search` is handed to close what the functions leave. Assumes nothing.
+use borrow.Author.Needs.{needs}
+use Rattle.grid.proofs.Bits.{powers}
+use Rattle.grid.proofs.Sets.{read, puts-held, put-fits, puts-set}
+
+pub ruleset grid = (needs, powers, read, puts-held, put-fits, puts-set)

@@ -1,0 +1,20 @@
+-- A set of pairs of numbers, as the bits of a list of bytes: a row of 128 bytes for each first number, and in it a bit for each second one. Assumes nothing: these are definitions.
+use Prim.Native.Nat.{ℕ, _+_, _*_, _/_, _%_, _^_, _≤_, _<_}
+use mathlib.Core.Path.{_≡_}
+use mathlib.Core.Bool.{Bool, _&&_, _||_}
+use mathlib.Core.List.{List}
+use lib.ListN.{length, getD}
+use lib.Dec.{eqb}
+
+-- the bit k of a byte, from the lowest
+unfoldable pub bit : ℕ → ℕ → Bool
+bit w k = eqb (w / 2 ^ k % 2) 1
+
+-- is the pair (row, column) in the set whose bits the bytes g are?
+unfoldable pub holds : List ℕ → ℕ → ℕ → Bool
+holds g row column = bit (getD g (row * 128 + column / 8) 0) (column % 8)
+
+-- g′ has the pair (row, column) besides those of g
+pub record Puts (g g′ : List ℕ) (row column : ℕ) : Type 0 where
+  pub room : length g′ ≡ length g
+  pub has : (a b : ℕ) → a * 128 + 128 ≤ length g → b < 1024 → holds g′ a b ≡ ((eqb a row && eqb b column) || holds g a b)
