@@ -1,6 +1,7 @@
 -- What the proofs of several functions use.
 mod Tests
 mod Scan
+mod Guess
 mod Steps
 mod Rows
 mod Rules

@@ -2,10 +2,11 @@
 ghost use Prim.Native.Nat.{_<_};
 ghost use mathlib.Core.Path.{_≡_};
 ghost use mathlib.Core.Bool.{true};
-ghost use lib.ListN.{length};
+ghost use mathlib.Core.List.{_∷_};
+ghost use lib.ListN.{length, getD};
 ghost use Rattle.strings.specs.Spans.{Span, decodeAt};
 ghost use Rattle.words.specs.Words.{codeOf, objectWords, geometryWords, surfaceWords, isAdded, isAddedName, isLod, isPermitted, depth, valuesDepth};
-ghost use Rattle.words.specs.Tables.{wordsIn, inOrder, numberIn, tabled};
+ghost use Rattle.words.specs.Tables.{wordsIn, inOrder, numberIn, isAt, guessed, tabled};
 ghost use Rattle.json.specs.Machine.{isDigit};
 
 // An end as an offset.
@@ -31,6 +32,99 @@ fn code_in(text: &[u8], at: usize, end: usize, words: &[u8], ends: &[u16]) -> us
         k += 1;
     }
     0
+}
+
+// Where the word at i begins.
+fn begin_of(ends: &[u16], i: usize) -> usize
+    requires { ⌜ i < length (now ends) ⌝ }
+    ensures { λ r. ⌜ r ≡ getD (0 ∷ now (ends .entry)) i 0 ⌝ }
+{
+    if i == 0 {
+        return 0;
+    }
+    wide(ends[i - 1])
+}
+
+// Is the string the word at i, counted from 0?
+fn is_at(text: &[u8], at: usize, end: usize, words: &[u8], ends: &[u16], i: usize) -> bool
+    requires { ⌜ (Span (now text) at end) × (inOrder 0 (now ends) (length (now words)) ≡ true) ⌝ }
+    ensures { λ r. ⌜ r ≡ isAt (wordsIn (now (words .entry)) 0 (now (ends .entry))) i (decodeAt (now (text .entry)) at end) ⌝ }
+{
+    if i >= ends.len() {
+        return false;
+    }
+    let from = begin_of(ends, i);
+    let to = wide(ends[i]);
+    strings::is_word(text, at, end, &words[from..to])
+}
+
+// The number of the word that a string is, where it is looked for at i first.
+fn guess_in(text: &[u8], at: usize, end: usize, words: &[u8], ends: &[u16], i: usize) -> usize
+    requires { ⌜ (Span (now text) at end) × (inOrder 0 (now ends) (length (now words)) ≡ true) ⌝ }
+    ensures { λ r. ⌜ r ≡ guessed (wordsIn (now (words .entry)) 0 (now (ends .entry))) i (decodeAt (now (text .entry)) at end) ⌝ }
+{
+    if is_at(text, at, end, words, ends, i) {
+        return i + 1;
+    }
+    code_in(text, at, end, words, ends)
+}
+
+// A byte as a number.
+fn byte(b: u8) -> usize
+    ensures { λ r. ⌜ r < 256 ⌝ }
+{
+    b as usize
+}
+
+// A number below 128 by which a string's place among the words is guessed. No two words of one list have the same.
+fn key(text: &[u8], at: usize, end: usize) -> usize
+    requires { ⌜ Span (now text) at end ⌝ }
+{
+    let size = end - at;
+    if size < 4 {
+        return 0;
+    }
+    (size + byte(text[at + 1]) * 3 + byte(text[end - 3]) * 6) % 128
+}
+
+// A guess at the place of an object type, counted from 0, from its key: right for every listed word that is written without escapes.
+fn object_guess(key: usize) -> usize {
+    match key {
+        5 => 26, // BuildingRoom
+        6 => 2, // CityFurniture
+        18 => 7, // PlantCover
+        25 => 25, // BuildingStorey
+        30 => 4, // GenericCityObject
+        35 => 20, // BridgeFurniture
+        38 => 16, // BridgePart
+        40 => 5, // LandUse
+        43 => 12, // TransportSquare
+        44 => 32, // TunnelFurniture
+        46 => 24, // BuildingFurniture
+        47 => 28, // TunnelPart
+        49 => 21, // BuildingPart
+        52 => 0, // Bridge
+        54 => 31, // TunnelHollowSpace
+        67 => 10, // SolitaryVegetationObject
+        70 => 14, // WaterBody
+        77 => 18, // BridgeConstructiveElement
+        86 => 30, // TunnelConstructiveElement
+        88 => 23, // BuildingConstructiveElement
+        90 => 11, // TINRelief
+        93 => 1, // Building
+        94 => 17, // BridgeInstallation
+        99 => 6, // OtherConstruction
+        100 => 3, // CityObjectGroup
+        103 => 29, // TunnelInstallation
+        105 => 22, // BuildingInstallation
+        107 => 9, // Road
+        116 => 8, // Railway
+        117 => 15, // Waterway
+        121 => 13, // Tunnel
+        122 => 19, // BridgeRoom
+        127 => 27, // BuildingUnit
+        _ => 33,
+    }
 }
 
 // The code of an object type, 0 if the string is none.
@@ -73,13 +167,28 @@ pub fn object_code(text: &[u8], at: usize, end: usize) -> usize
         437,
         452,
     ];
-    code_in(
+    guess_in(
         text,
         at,
         end,
         b"BridgeBuildingCityFurnitureCityObjectGroupGenericCityObjectLandUseOtherConstructionPlantCoverRailwayRoadSolitaryVegetationObjectTINReliefTransportSquareTunnelWaterBodyWaterwayBridgePartBridgeInstallationBridgeConstructiveElementBridgeRoomBridgeFurnitureBuildingPartBuildingInstallationBuildingConstructiveElementBuildingFurnitureBuildingStoreyBuildingRoomBuildingUnitTunnelPartTunnelInstallationTunnelConstructiveElementTunnelHollowSpaceTunnelFurniture",
         &ends,
+        object_guess(key(text, at, end)),
     )
+}
+
+// A guess at the place of a geometry type, counted from 0, from its key: right for every listed word that is written without escapes.
+fn geometry_guess(key: usize) -> usize {
+    match key {
+        35 => 3, // CompositeSurface
+        49 => 2, // MultiSurface
+        90 => 4, // Solid
+        95 => 0, // MultiPoint
+        99 => 6, // CompositeSolid
+        100 => 1, // MultiLineString
+        113 => 5, // MultiSolid
+        _ => 7,
+    }
 }
 
 // The code of a geometry type, 0 if the string is none.
@@ -88,13 +197,39 @@ pub fn geometry_code(text: &[u8], at: usize, end: usize) -> usize
     ensures { λ r. ⌜ r ≡ codeOf geometryWords (decodeAt (now (text .entry)) at end) ⌝ }
 {
     let ends: [u16; 7] = [10, 25, 37, 53, 58, 68, 82];
-    code_in(
+    guess_in(
         text,
         at,
         end,
         b"MultiPointMultiLineStringMultiSurfaceCompositeSurfaceSolidMultiSolidCompositeSolid",
         &ends,
+        geometry_guess(key(text, at, end)),
     )
+}
+
+// A guess at the place of a surface type, counted from 0, from its key: right for every listed word that is written without escapes.
+fn surface_guess(key: usize) -> usize {
+    match key {
+        2 => 17, // TransportationHole
+        3 => 9, // CeilingSurface
+        13 => 14, // TrafficArea
+        22 => 10, // FloorSurface
+        24 => 3, // ClosureSurface
+        25 => 6, // Window
+        30 => 0, // RoofSurface
+        31 => 15, // AuxiliaryTrafficArea
+        35 => 8, // InteriorWallSurface
+        41 => 1, // GroundSurface
+        54 => 5, // OuterFloorSurface
+        56 => 4, // OuterCeilingSurface
+        97 => 16, // TransportationMarking
+        107 => 7, // Door
+        116 => 2, // WallSurface
+        117 => 11, // WaterSurface
+        123 => 12, // WaterGroundSurface
+        124 => 13, // WaterClosureSurface
+        _ => 18,
+    }
 }
 
 // The code of a surface type, 0 if the string is none of the listed ones.
@@ -122,12 +257,13 @@ pub fn surface_code(text: &[u8], at: usize, end: usize) -> usize
         241,
         259,
     ];
-    code_in(
+    guess_in(
         text,
         at,
         end,
         b"RoofSurfaceGroundSurfaceWallSurfaceClosureSurfaceOuterCeilingSurfaceOuterFloorSurfaceWindowDoorInteriorWallSurfaceCeilingSurfaceFloorSurfaceWaterSurfaceWaterGroundSurfaceWaterClosureSurfaceTrafficAreaAuxiliaryTrafficAreaTransportationMarkingTransportationHole",
         &ends,
+        surface_guess(key(text, at, end)),
     )
 }
 
