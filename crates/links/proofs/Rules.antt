@@ -15,15 +15,14 @@ use borrow.Author.Tests.{not-true, not-false, lt-ltb, le-ltb, ne-eqb}
 use borrow.Author.Needs.{needs}
 use Rattle.utf8.specs.Ascii.{ascii}
 use Rattle.utf8.specs.Utf8.{same}
-use Rattle.strings.specs.Spans.{Span, decodeAt}
 use Rattle.json.specs.Tree.{Json, Items, _▸_, _◂_}
 use Rattle.json.specs.Tree as tree
 use Rattle.json.specs.Table.{sizes, Sub, Subs, nil}
-use Rattle.json.specs.Laws.{words, Left, Past, past, over, ended, sizes-◂, subs-◂}
+use Rattle.json.specs.Laws.{Left, Past, past, over, ended, sizes-◂, subs-◂}
 use Rattle.nodes.specs.Access.{isStringValue, isArrayValue, textOf, nameOf, listed, elements, members, Member, firstNamed, find}
 use Rattle.nodes.specs.Everywhere.{among}
 use Rattle.nodes.specs.Faults.{least}
-use Rattle.nodes.specs.Laws.{rawOf, string-at, text-at, quoted-at, elements-begin, no-elements, least-++}
+use Rattle.nodes.specs.Laws.{elements-begin, no-elements, least-++}
 use Rattle.nodes.specs.Parts.{textAt}
 use Rattle.nodes.specs.Says.{Node, Sought, Seeks, Finds, Gives, GivesFound}
 use Rattle.nodes.specs.declared.Found.{Found}
@@ -34,49 +33,14 @@ use mir.Val.{Fits}
 use mir.Syntax.{w64}
 use Rattle.words.specs.Words.{objectWords, codeOf, is, isSecondLevel}
 use Rattle.fields.specs.Fields.{textIn, countIn, typeText, objectsOf}
-use Rattle.fields.specs.Says.{MemberAt}
 use Rattle.fields.specs.Laws.{at-node, of-none, of-some}
 use Rattle.fields.specs.declared.Index.{Index}
+use Rattle.ids.specs.Says.{Offsets, Objects, MemberNode}
+use Rattle.ids.proofs.Rules.{ids, string-text, name-text, nobody, object-node, object-few}
 use Rattle.links.specs.Links.{elementsIn, listedIn, idsAmong, idsIn, link, linksFrom, isEmpty, hasParent, linksOf, linksOfEach, linkFaults}
-use Rattle.links.specs.Says.{TextNode, Offsets, Objects, FindsObject, Before, Amongst, idsUnder, Fresh, seen, entry, EntryGives, ListGives, MemberNode, MemberGives, Ready, LinksGive}
+use Rattle.links.specs.Says.{FindsObject, Before, Amongst, idsUnder, Fresh, seen, entry, EntryGives, ListGives, MemberGives, Ready, LinksGive}
 
 -- ---- texts
-
-module _ {x t : List ℕ} {i : ℕ} (d : TextNode x t i) where
-  pub text-first : i < length t
-  text-first = omega (arith, d .string .room)
-
-  pub text-second : i + 1 < length t
-  text-second = omega (arith, d .string .room)
-
-  pub text-some : {e : ℕ} → e ≡ getD t (i + 1) 0 → 1 ≤ e
-  text-some q = rw q (d .string .some)
-
-  pub text-fits : {p : ℕ} → p ≡ getD t i 0 → p + 1 ≤ length x
-  text-fits q = rw q (d .string .fits)
-
-  pub text-span : {p e : ℕ} → p ≡ getD t i 0 → e ≡ getD t (i + 1) 0 → Span x (p + 1) (e - 1)
-  text-span q r = rw (q, r) (d .string .span)
-
--- a string, and a member's name
-pub of-string : {x t : List ℕ} {i : ℕ} {b : Bool} → Node x t i → Gives isStringValue x t i b → not b ≡ false → TextNode x t i
-of-string {b = b} d g h = record { raw = rawOf (d .value); string = string-at (d .stands) (sym (g .is _ (d .stands)) ∙ not-false b h) }
-
-pub of-member : {x t : List ℕ} {i : ℕ} {m : Member} → MemberAt x t i m → TextNode x t i
-of-member {m = m} d = record { raw = m .0 .raw; string = quoted-at (d .name) }
-
--- its text
-string-text : {x t : List ℕ} {i : ℕ} {v : Json} → Sub x t i v → isStringValue v ≡ true → textOf v ≡ textAt x t i
-unfolding textAt
-string-text s h = text-at s h
-
-pub name-text : {x t : List ℕ} {i : ℕ} {m : Member} → MemberAt x t i m → nameOf m ≡ textAt x t i
-unfolding nameOf textAt
-name-text d = quoted-at (d .name) .text
-
-pub same-told : {x t : List ℕ} {i j p e p′ e′ : ℕ} {r : Bool} → TextNode x t i → TextNode x t j → p ≡ getD t i 0 → e ≡ getD t (i + 1) 0 → p′ ≡ getD t j 0 → e′ ≡ getD t (j + 1) 0 → r ≡ same (decodeAt x (p + 1) (e - 1)) (decodeAt x (p′ + 1) (e′ - 1)) → r ≡ same (textAt x t i) (textAt x t j)
-unfolding textAt
-same-told a b q r q′ r′ s = rw (← q, ← r, ← q′, ← r′) s
 
 -- is a value a string with that text?
 module _ {x t : List ℕ} {i : ℕ} {b : Bool} (u : List ℕ) (g : Gives isStringValue x t i b) where
@@ -88,10 +52,6 @@ module _ {x t : List ℕ} {i : ℕ} {b : Bool} (u : List ℕ) (g : Gives isStrin
 
 -- ---- the objects
 
--- a member for the places past the end of a list
-nobody : Member
-nobody = (record { place = 0; end = 0; raw = [] }, tree.null 0 0)
-
 first-cons : (u : List ℕ) (ms : List Member) (k : ℕ) → k < length ms → firstNamed u (drop k ms) ≡ cond (same u (nameOf (getD ms k nobody))) (some (getD ms k nobody .1)) (firstNamed u (drop (k + 1) ms))
 unfolding firstNamed
 first-cons u ms k h = rw (add-one, drop-cons ms k nobody)
@@ -100,19 +60,6 @@ first-cons u ms k h = rw (add-one, drop-cons ms k nobody)
 pub record Searching (x t offsets : List ℕ) (count i k : ℕ) : Type 0 where
   pub some : Objects x t offsets count
   pub left : (ms : List Member) → Offsets x t ms offsets count → firstNamed (textAt x t i) (drop k ms) ≡ firstNamed (textAt x t i) ms
-
-module _ {x t offsets : List ℕ} {count : ℕ} where
-  pub object-node : {k : ℕ} → Objects x t offsets count → k < count → MemberNode x t (getD offsets k 0)
-  object-node {k} s l = record { it = getD (s .members) k nobody; stands = s .stand .each k nobody l }
-
-  pub object-text : {k : ℕ} → Objects x t offsets count → k < count → TextNode x t (getD offsets k 0)
-  object-text s l = of-member (object-node s l .stands)
-
-  pub object-onward : {k : ℕ} → Objects x t offsets count → k < count → getD offsets k 0 + 3 + 2 < length t
-  object-onward s l = words (object-node s l .stands .value) .room
-
-  pub object-few : {k : ℕ} → Objects x t offsets count → k < count → k < 1024
-  object-few s l = omega (arith, s .stand .few)
 
 module _ {x t offsets : List ℕ} {count i : ℕ} where
   pub search-begin : Objects x t offsets count → Searching x t offsets count i 0
@@ -428,15 +375,6 @@ module _ {x t : List ℕ} {i : ℕ} {kind parents : Found} (best : ℕ) {code : 
 
 -- ---- one object, and all
 
-pub object-value : {x t offsets : List ℕ} {count i : ℕ} → Objects x t offsets count → MemberNode x t i → Node x t (i + 3)
-object-value o d = record { value = d .it .1; stands = d .stands .value; short = o .short }
-
-pub member-text : {x t : List ℕ} {i : ℕ} → MemberNode x t i → TextNode x t i
-member-text d = of-member (d .stands)
-
-pub member-onward : {x t : List ℕ} {i : ℕ} → MemberNode x t i → length t * 4 < 2 ^ 63 → Fits w64 (i + 3)
-member-onward d h = let w = words (d .stands .value) in record { fits = omega (arith, w .room) }
-
 member-parts : (ms : List Member) (m : Member) → linksOf ms m ≡ ((linksFrom ms "parents" (nameOf m) (same (ascii "CityObjectGroup") (textIn (find "type" (m .1)))) [] (elementsIn (find "children" (m .1))) ++ linksFrom ms "children" (nameOf m) false [] (elementsIn (find "parents" (m .1)))) ++ hasParent (m .1))
 unfolding linksOf listedIn is typeText
 member-parts ms m = refl
@@ -498,4 +436,4 @@ module _ {x t offsets : List ℕ} {count best k acc : ℕ} (p : Sweeping x t off
   unfolding linksOfEach least
   sweep-done h = record { is = λ v s f. let (o, e) = p .left v s f in sym (ap (λ l. least acc (linksOfEach (objectsOf v) l)) (drop-of-length-le (objectsOf v) {i = k} (omega (arith, o .all)))) ∙ e }
 
-pub ruleset links = (checking, needs, text-first, text-second, text-some, text-fits, text-span, of-string, of-member, same-told, search-begin, object-node, object-text, object-few, search-found, search-again, search-done, compare-begin, compare-node, compare-room, compare-less, compare-found, compare-again, compare-done, at-node, at-room, at-onward, seek-room, seek-onward, sought-in, sought-object, before-kids, fresh-nothing, fresh-told, entry-other, entry-excused, entry-answered, linking-begin, linking-less, linking-turn, list-told, list-nothing, list-other, object-value, member-text, member-onward, objects-are, sweep-begin, sweep-node, sweep-few, sweep-turn)
+pub ruleset links = (checking, needs, ids, search-begin, search-found, search-again, search-done, compare-begin, compare-node, compare-room, compare-less, compare-found, compare-again, compare-done, at-node, at-room, at-onward, seek-room, seek-onward, sought-in, sought-object, before-kids, fresh-nothing, fresh-told, entry-other, entry-excused, entry-answered, linking-begin, linking-less, linking-turn, list-told, list-nothing, list-other, objects-are, sweep-begin, sweep-node, sweep-few, sweep-turn)

@@ -3,16 +3,15 @@ use mathlib.Core.Path.{_≡_}
 use mathlib.Core.Bool.{Bool, cond, not, _&&_}
 use mathlib.Core.List.{List, [], _∷_, _++_}
 use mathlib.Core.Option.{Option, none, some}
-use Prim.Native.Nat.{ℕ, _+_, _<_, _≤_}
+use Prim.Native.Nat.{ℕ, _+_, _≤_}
 use Prim.Native.String.{String}
-use lib.ListN.{length, getD}
+use lib.ListN.{length}
 use Rattle.utf8.specs.Ascii.{ascii}
 use Rattle.json.specs.Tree.{Json, Items}
 use Rattle.json.specs.Table.{sizes, Sub, Subs}
 use Rattle.nodes.specs.Access.{isStringValue, listed, members, Member, firstNamed}
 use Rattle.nodes.specs.Everywhere.{among}
 use Rattle.nodes.specs.Faults.{least}
-use Rattle.nodes.specs.Laws.{StringAt}
 use Rattle.nodes.specs.Parts.{textAt}
 use Rattle.nodes.specs.Says.{Finds, Gives, GivesFound}
 use Rattle.nodes.specs.declared.Found.{Found}
@@ -20,24 +19,8 @@ use Rattle.shapes.specs.Checks.{isSome}
 use Rattle.fields.specs.Fields.{objectsOf}
 use Rattle.fields.specs.Says.{MemberAt, Indexed}
 use Rattle.fields.specs.declared.Index.{Index}
+use Rattle.ids.specs.Says.{Offsets}
 use Rattle.links.specs.Links.{elementsIn, idsAmong, link, linksFrom, linksOf, linkFaults}
-
--- a string or a name stands at the node i
-pub record TextNode (x t : List ℕ) (i : ℕ) : Type 0 where
-  pub raw : List ℕ
-  pub string : StringAt x t i raw
-
--- the offsets are the nodes of the names of the members ms, in order, of which there are at most 1,024
-pub record Offsets (x t : List ℕ) (ms : List Member) (offsets : List ℕ) (count : ℕ) : Type 0 where
-  pub all : count ≡ length ms
-  pub few : count ≤ 1024
-  pub each : (k : ℕ) (d : Member) → k < count → MemberAt x t (getD offsets k 0) (getD ms k d)
-
--- they are those of some members of a text that is short enough (rule 1)
-pub record Objects (x t offsets : List ℕ) (count : ℕ) : Type 0 where
-  pub members : List Member
-  pub stand : Offsets x t members offsets count
-  pub short : length x ≤ 65535
 
 -- what was found is the first of these members whose name is the text at the node k
 pub record FindsObject (x t offsets : List ℕ) (count k : ℕ) (found : Found) : Type 0 where
@@ -83,11 +66,6 @@ pub record EntryGives (x t offsets : List ℕ) (count own : ℕ) (back : List �
 -- r is the least of best and of the faults of the list of links that was found, if there is one
 pub record ListGives (x t offsets : List ℕ) (count own : ℕ) (back : List ℕ) (excused : Bool) (found : Found) (best r : ℕ) : Type 0 where
   pub is : (ms : List Member) → Offsets x t ms offsets count → (name : String) → back ≡ ascii name → GivesFound (λ o. least best (linksFrom ms name (textAt x t own) excused [] (elementsIn o))) x t found r
-
--- some member stands at the node i
-pub record MemberNode (x t : List ℕ) (i : ℕ) : Type 0 where
-  pub it : Member
-  pub stands : MemberAt x t i it
 
 -- r is the least of best and of the faults of the links of the member at the node `own`
 pub record MemberGives (x t offsets : List ℕ) (count own best r : ℕ) : Type 0 where

@@ -4,27 +4,15 @@ use nodes::Found;
 ghost use Prim.Native.Nat.{_+_, _<_};
 ghost use mathlib.Core.Bool.{_&&_};
 ghost use mathlib.Core.Option as option;
-ghost use mathlib.Core.Path.{_≡_};
 ghost use Rattle.utf8.specs.Utf8 as utf8;
 ghost use Rattle.nodes.specs.Access as access;
 ghost use Rattle.nodes.specs.Everywhere as everywhere;
 ghost use Rattle.nodes.specs.Faults.{least};
 ghost use Rattle.nodes.specs.Parts.{textAt};
 ghost use Rattle.nodes.specs.Says.{Node, Sought, Seeks, Gives, GivesFound};
+ghost use Rattle.ids.specs.Says.{TextNode, Objects, MemberNode};
 ghost use Rattle.links.specs.Links.{hasParent, linkFaults};
-ghost use Rattle.links.specs.Says.{TextNode, Objects, FindsObject, Before, Amongst, idsUnder, Fresh, EntryGives, ListGives, MemberNode, MemberGives, Ready, LinksGive};
-
-// Do the strings or names at two nodes stand for the same text?
-pub fn same(text: &[u8], table: &[u32], i: usize, j: usize) -> bool
-    requires { ⌜ (TextNode (now text) (now table) i) × (TextNode (now text) (now table) j) ⌝ }
-    ensures { λ r. ⌜ r ≡ utf8.same (textAt (now (text .entry)) (now (table .entry)) i) (textAt (now (text .entry)) (now (table .entry)) j) ⌝ }
-{
-    let from = nodes::start(table, i);
-    let to = nodes::end(table, i);
-    let from2 = nodes::start(table, j);
-    let to2 = nodes::end(table, j);
-    strings::same_string(text, from + 1, to - 1, from2 + 1, to2 - 1)
-}
+ghost use Rattle.links.specs.Says.{FindsObject, Before, Amongst, idsUnder, Fresh, EntryGives, ListGives, MemberGives, Ready, LinksGive};
 
 // The node of the first object whose ID is the string at node i.
 fn find(text: &[u8], table: &[u32], offsets: &[usize; 1024], count: usize, i: usize) -> Found
@@ -34,7 +22,7 @@ fn find(text: &[u8], table: &[u32], offsets: &[usize; 1024], count: usize, i: us
     let mut k = 0;
     while k < count {
         let name = offsets[k];
-        if same(text, table, i, name) {
+        if ids::same(text, table, i, name) {
             let object = name + 3;
             return Found::At(object);
         }
@@ -51,7 +39,7 @@ fn is_text(text: &[u8], table: &[u32], i: usize, j: usize) -> bool
     if !nodes::is_string(text, table, i) {
         return false;
     }
-    same(text, table, i, j)
+    ids::same(text, table, i, j)
 }
 
 // Is the string or name at node j among the strings that stand from the node `first` on before the node `limit`?

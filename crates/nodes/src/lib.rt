@@ -274,7 +274,7 @@ fn hash(text: &[u8], at: usize, end: usize) -> u32
 }
 
 // The chain that a string goes to, of 4,096.
-fn chain_of(text: &[u8], at: usize, end: usize) -> usize
+pub fn chain_of(text: &[u8], at: usize, end: usize) -> usize
     requires { ⌜ Span (now text) at end ⌝ }
     ensures { λ r. ⌜ (r ≡ chainOf (decodeAt (now (text .entry)) at end)) × (r < 4096) ⌝ }
 {

@@ -15,8 +15,8 @@ use Rattle.nodes.specs.Parts.{textAt}
 use Rattle.nodes.specs.Says.{Sought, Gives}
 use Rattle.nodes.specs.declared.Found.{Found}
 use Rattle.nodes.specs.declared.Found.the-variants.{At, Nothing}
-use Rattle.links.specs.Says.{TextNode, Offsets, Objects}
-use Rattle.links.proofs.Rules.{object-node, name-text}
+use Rattle.ids.specs.Says.{TextNode, Offsets, Objects, namesOf, Numbers}
+use Rattle.ids.proofs.Rules.{object-node, name-text}
 use Rattle.model.specs.Code.{le}
 use Rattle.model.specs.Model.{numberOf}
 use Rattle.writer.specs.Writes.{Writes, Closes}
@@ -24,8 +24,8 @@ use Rattle.arrays.specs.Fits.{Elements}
 use Rattle.arrays.specs.Says.{Holds}
 use Rattle.arrays.specs.Laws.{Laying, laying-start, laying-item, laying-room, laying-less, laying-turn}
 use Rattle.records.specs.Fits.{Text}
-use Rattle.records.specs.Bytes.{numbersIn, namesOf}
-use Rattle.records.specs.Says.{Numbers, NumbersWrote, LinksWrote}
+use Rattle.records.specs.Bytes.{numbersIn}
+use Rattle.records.specs.Says.{NumbersWrote, LinksWrote}
 use Rattle.records.proofs.Nodes.{laying-same, each-none, each-other, each-done, closed-found, found-onward}
 
 -- ---- the number of one object

@@ -16,7 +16,7 @@ use Rattle.nodes.specs.declared.Found.{Found}
 use Rattle.nodes.specs.declared.Found.the-variants.{At, Nothing}
 use Rattle.fields.specs.Fields.{textIn, typeText}
 use Rattle.fields.specs.Laws.{at-node}
-use Rattle.links.proofs.Rules.{name-text}
+use Rattle.ids.proofs.Rules.{name-text}
 use Rattle.model.specs.Code.{le, each, All}
 use Rattle.model.specs.Model.{rec, layRec, laySurface, surfaceRecs}
 use Rattle.model.specs.Read.{orNull, surfaceNamed, surfaceOf}

@@ -8,7 +8,6 @@ use mathlib.Core.Option.{some}
 use lib.ListN.{length, getD, drop, drop-of-length-le}
 use lib.Seq.{drop-cons}
 use Rattle.json.specs.Tree.{Json, Name}
-use Rattle.json.specs.Tree as tree
 use Rattle.json.specs.Table.{Sub}
 use Rattle.nodes.specs.Access.{Member, find}
 use Rattle.nodes.specs.Says.{Node, Seeks}
@@ -17,7 +16,8 @@ use Rattle.nodes.specs.declared.Found.the-variants.{At, Nothing}
 use Rattle.fields.specs.Fields.{objectsOf}
 use Rattle.fields.specs.Says.{MemberAt, Indexed}
 use Rattle.fields.specs.declared.Index.{Index}
-use Rattle.links.specs.Says.{Offsets, Objects, MemberNode}
+use Rattle.ids.specs.Says.{Offsets, Objects, MemberNode, namesOf}
+use Rattle.ids.proofs.Rules.{nobody}
 use Rattle.model.specs.Code.{each, All}
 use Rattle.model.specs.Model.{rec, layRec, sheetOf}
 use Rattle.model.specs.Read.{get, modelOf}
@@ -27,7 +27,7 @@ use Rattle.arrays.specs.Fits.{Elements, Triple, Coordinate}
 use Rattle.arrays.specs.Says.{Holds, Wrote, WroteFound}
 use Rattle.arrays.specs.Laws.{holds-at, holds-as}
 use Rattle.records.specs.Fits.{Has, Perhaps, Text, GeometryFits, ObjectFits, TransformFits, RootFits}
-use Rattle.records.specs.Bytes.{eachIn, geometryBytes, objectBytes, namesOf, transformBytes, verticesBytes}
+use Rattle.records.specs.Bytes.{eachIn, geometryBytes, objectBytes, transformBytes, verticesBytes}
 use Rattle.records.specs.Parts.{object-parts, sheet-parts}
 use Rattle.records.specs.Says.{LinksWrote, IdentityWrote, ObjectWrote, Placed, ObjectsWrote, Ready, SheetWrote}
 use Rattle.records.proofs.Members.{wrote-member, wrote-at}
@@ -65,10 +65,6 @@ pub record Objecting (x t offsets : List ℕ) (count k : ℕ) (d₀ d : List ℕ
   pub done : (ms : List Member) → Offsets x t ms offsets count → List ℕ
   pub all-is : (ms : List Member) (o : Offsets x t ms offsets count) → each (objectBytes (namesOf ms)) ms ≡ done ms o ++ each (objectBytes (namesOf ms)) (drop k ms)
   pub wrote : (ms : List Member) (o : Offsets x t ms offsets count) → Writes (done ms o) d₀ d to at
-
--- some member
-nobody : Member
-nobody = (record { place = 0; end = 0; raw = [] }, tree.null 0 0)
 
 module _ {x t offsets : List ℕ} {count : ℕ} where
   pub objecting-start : {d : List ℕ} {to : ℕ} → Placed x t offsets count → Objecting x t offsets count 0 d d to to

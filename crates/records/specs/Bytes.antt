@@ -1,5 +1,5 @@
 -- The bytes of the records of a value, of a part of a city model. Assumes nothing: these are definitions.
-use mathlib.Core.List.{List, [], _++_, map}
+use mathlib.Core.List.{List, [], _++_}
 use mathlib.Core.Option.{Option, none, some}
 use Prim.Native.Nat.{ℕ}
 use Rattle.json.specs.Tree.{Json}
@@ -50,10 +50,6 @@ identityBytes m = layRec (rec 3 (le 2 (codeOf objectWords (typeText (m .1))) ++ 
 -- a city object: kinds 3, 4 and 5, and its geometries
 unfoldable pub objectBytes : List (List ℕ) → Member → List ℕ
 objectBytes ids m = each layRec (objectRecs (numberObject ids (objectOf m)))
-
--- the IDs of some members
-unfoldable pub namesOf : List Member → List (List ℕ)
-namesOf ms = map nameOf ms
 
 -- the transform: kind 1
 unfoldable pub transformBytes : Json → List ℕ

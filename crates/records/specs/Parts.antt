@@ -13,8 +13,9 @@ use Rattle.model.specs.Model.{Rec, rec, layRec, layThree, layDecimal, lodCode, 
 use Rattle.model.specs.Read.{get, orNull, decimalOf, integerOf, indexOf, valueOf, threeOf, nestOf, lodOf, surfaceOf, semanticsOf, geometryOf, objectOf, modelOf}
 use Rattle.arrays.specs.Parts.{each-map}
 use Rattle.sheets.specs.Clear.{type-text, objects-members}
+use Rattle.ids.specs.Says.{namesOf}
 use Rattle.records.specs.Fits.{geometryCode}
-use Rattle.records.specs.Bytes.{eachIn, surfaceBytes, valuesBytes, semanticsBytes, semanticsIn, shapeBytes, geometryBytes, numbersIn, identityBytes, objectBytes, namesOf, transformBytes, verticesBytes}
+use Rattle.records.specs.Bytes.{eachIn, surfaceBytes, valuesBytes, semanticsBytes, semanticsIn, shapeBytes, geometryBytes, numbersIn, identityBytes, objectBytes, transformBytes, verticesBytes}
 
 -- ---- lists
 

@@ -8,20 +8,19 @@ use Rattle.strings.specs.Spans.{Span, decodeAt}
 use Rattle.json.specs.Tree.{Json}
 use Rattle.json.specs.Table.{Sub}
 use Rattle.nodes.specs.Access.{Member}
-use Rattle.nodes.specs.Parts.{textAt}
 use Rattle.nodes.specs.Says.{Finds, Sought}
 use Rattle.nodes.specs.declared.Found.{Found}
 use Rattle.fields.specs.Fields.{textIn, objectsOf}
 use Rattle.fields.specs.Says.{MemberAt, Indexed}
 use Rattle.fields.specs.declared.Index.{Index}
-use Rattle.links.specs.Says.{Offsets, Objects}
+use Rattle.ids.specs.Says.{Offsets, Objects, namesOf}
 use Rattle.model.specs.Code.{each}
-use Rattle.model.specs.Model.{layRec, rec, numberOf, sheetOf}
+use Rattle.model.specs.Model.{layRec, rec, sheetOf}
 use Rattle.model.specs.Read.{modelOf}
 use Rattle.writer.specs.Writes.{Writes}
 use Rattle.arrays.specs.Says.{Holds, WroteFound}
 use Rattle.records.specs.Fits.{ObjectFits, RootFits}
-use Rattle.records.specs.Bytes.{numbersIn, namesOf, identityBytes, objectBytes}
+use Rattle.records.specs.Bytes.{numbersIn, identityBytes, objectBytes}
 use Rattle.records.specs.declared.Quote.{Quote}
 
 -- if something was found, P holds of it
@@ -33,10 +32,6 @@ pub record HoldsFound (P : Json → Type 0) (x t : List ℕ) (found : Found) : T
 pub record Quotes (x t : List ℕ) (found : Found) (q : Quote) : Type 0 where
   pub span : Span x (q .from) (q .to)
   pub text : (o : Option Json) → Finds x t o found → decodeAt x (q .from) (q .to) ≡ textIn o
-
--- r is the number of the object whose ID is the text at the node i
-pub record Numbers (x t offsets : List ℕ) (count i r : ℕ) : Type 0 where
-  pub is : (ms : List Member) → Offsets x t ms offsets count → r ≡ numberOf (namesOf ms) (textAt x t i)
 
 -- the numbers of the objects that the list that was found names were to be written, in a record of that kind
 pub record LinksWrote (x t offsets : List ℕ) (count : ℕ) (found : Found) (kind : ℕ) (d₀ d : List ℕ) (to r : ℕ) : Type 0 where

@@ -8,7 +8,7 @@ ghost use mathlib.Core.Path.{_≡_};
 ghost use Rattle.strings.specs.Spans.{Span, decodeAt};
 ghost use Rattle.nodes.specs.Says.{Node, Sought};
 ghost use Rattle.words.specs.Words.{isLod};
-ghost use Rattle.links.specs.Says.{TextNode, Objects, MemberNode};
+ghost use Rattle.ids.specs.Says.{TextNode, Objects, MemberNode, Numbers};
 ghost use Rattle.model.specs.Model.{laySurface, lodCode};
 ghost use Rattle.model.specs.Read.{surfaceNamed, lodOf};
 ghost use Rattle.writer.specs.Writes.{Writes};
@@ -17,7 +17,7 @@ ghost use Rattle.arrays.specs.Says.{Holds, Wrote, WroteFound};
 ghost use Rattle.words.specs.Words.{valuesDepth};
 ghost use Rattle.records.specs.Fits.{Text, SemanticsFit, ShapeFits, GeometryFits, ObjectFits, TransformFits};
 ghost use Rattle.records.specs.Bytes.{eachIn, surfaceBytes, valuesBytes, semanticsBytes, shapeBytes, geometryBytes, transformBytes, verticesBytes};
-ghost use Rattle.records.specs.Says.{HoldsFound, Quotes, Numbers, LinksWrote, NumbersWrote, IdentityWrote, ObjectWrote, Placed, ObjectsWrote, Ready, SheetWrote};
+ghost use Rattle.records.specs.Says.{HoldsFound, Quotes, LinksWrote, NumbersWrote, IdentityWrote, ObjectWrote, Placed, ObjectsWrote, Ready, SheetWrote};
 
 // Where the bytes of a string stand in the text, between its quotes.
 pub struct Quote {
@@ -204,7 +204,7 @@ fn number(text: &[u8], table: &[u32], offsets: &[usize; 1024], count: usize, i: 
     let mut k = 0;
     while k < count {
         let name = offsets[k];
-        if links::same(text, table, name, i) {
+        if ids::same(text, table, name, i) {
             return k;
         }
         k += 1;

@@ -1,7 +1,8 @@
 -- `links::find` meets its contract. Assumes nothing.
 use Prim.Native.Nat.{_-_}
 use native.Mathlib.Omega.{arith}
-use Rattle.links.proofs.Rules.{links, Searching, object-onward}
+use Rattle.ids.proofs.Rules.{object-onward}
+use Rattle.links.proofs.Rules.{links, Searching}
 use Rattle.links.proofs.find.Statement.{statement}
 use Rattle.links.proofs.find.Tie as tie
 

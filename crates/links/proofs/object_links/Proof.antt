@@ -2,7 +2,8 @@
 use mathlib.Core.Path.{refl}
 use Rattle.utf8.specs.Ascii.{ascii}
 use Rattle.shapes.specs.Laws.{seeks-find}
-use Rattle.links.proofs.Rules.{links, sought-in, object-value, member-text, member-is}
+use Rattle.ids.proofs.Rules.{object-value, member-text}
+use Rattle.links.proofs.Rules.{links, sought-in, member-is}
 use Rattle.links.proofs.object_links.Statement.{statement}
 use Rattle.links.proofs.object_links.Tie as tie
 

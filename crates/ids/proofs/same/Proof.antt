@@ -1,8 +1,8 @@
--- `links::same` meets its contract. Assumes nothing.
+-- `ids::same` meets its contract. Assumes nothing.
 use native.Mathlib.Omega.{arith}
-use Rattle.links.proofs.Rules.{links, text-fits}
-use Rattle.links.proofs.same.Statement.{statement}
-use Rattle.links.proofs.same.Tie as tie
+use Rattle.ids.proofs.Rules.{ids, text-fits}
+use Rattle.ids.proofs.same.Statement.{statement}
+use Rattle.ids.proofs.same.Tie as tie
 
 add-same-string : tie.Need-add-same-string
 add-same-string c = omega (arith, text-fits (c .before .before .before .before .before .before .pre .0) (c .before .before .before .start .ensures))
@@ -14,13 +14,13 @@ pub same-spec : {M : Type 1} → statement M
 same-spec =
     tie.close
     (tie.spec
-    (λ c κs. search links)
-    (λ c κs. search links)
-    (λ c κs. search links)
-    (λ c κs. search links)
+    (λ c κs. search ids)
+    (λ c κs. search ids)
+    (λ c κs. search ids)
+    (λ c κs. search ids)
     add-same-string
-    (λ c. search links)
+    (λ c. search ids)
     add-same-string-2
-    (λ c. search links)
-    (λ c κs. search links)
-    (λ c. search links))
+    (λ c. search ids)
+    (λ c κs. search ids)
+    (λ c. search ids))

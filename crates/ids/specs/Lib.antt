@@ -1,0 +1,2 @@
+-- The IDs of city objects, and how one is found among them.
+pub mod Says
