@@ -1,10 +1,10 @@
 -- Texts and city objects in the node table. Assumes nothing.
-use Prim.Native.Nat.{ℕ, _+_, _-_, _*_, _^_, _≤_, _<_}
+use Prim.Native.Nat.{ℕ, zero, suc, _+_, _-_, _*_, _^_, _≤_, _<_}
 use native.Mathlib.Omega.{arith}
-use mathlib.Core.Path.{_≡_, sym, _∙_}
+use mathlib.Core.Path.{_≡_, refl, sym, ap, _∙_}
 use mathlib.Core.Bool.{Bool, true, false, not}
 use mathlib.Core.List.{List, []}
-use lib.ListN.{length, getD}
+use lib.ListN.{length, getD, replicate, length-replicate}
 use borrow.Author.Tests.{not-false}
 use borrow.Author.Needs.{needs}
 use mir.Val.{Fits}
@@ -89,5 +89,19 @@ member-text d = of-member (d .stands)
 
 pub member-onward : {x t : List ℕ} {i : ℕ} → MemberNode x t i → length t * 4 < 2 ^ 63 → Fits w64 (i + 3)
 member-onward d h = let w = words (d .stands .value) in record { fits = omega (arith, w .room) }
+
+-- ---- an array that was just made
+
+zero-at : (c n : ℕ) → _≡_ {A = ℕ} (getD (replicate n 0) c 0) 0
+zero-at c zero = refl
+zero-at zero (suc n) = refl
+zero-at (suc c) (suc n) = zero-at c n
+
+module _ {l : List ℕ} (n : ℕ) (q : l ≡ replicate n 0) where
+  pub fresh-zero : (c : ℕ) → getD l c 0 ≡ 0
+  fresh-zero c = ap (λ (a : List ℕ). getD a c 0) q ∙ zero-at c n
+
+  pub fresh-length : length l ≡ n
+  fresh-length = ap length q ∙ length-replicate {A = ℕ} n 0
 
 pub ruleset ids = (needs, text-first, text-second, text-some, text-fits, text-span, of-string, of-member, same-told, object-node, object-text, object-few, object-value, member-text, member-onward)

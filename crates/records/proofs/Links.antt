@@ -1,22 +1,17 @@
 -- The numbers of linked objects, from what the code's tests and callees say. Assumes nothing.
-use Prim.Native.Nat.{ℕ, suc, _+_, _-_, _≤_, _<_}
-use native.Mathlib.Omega.{arith}
-use native.Mathlib.Numerals.{add-one}
-use mathlib.Core.Path.{_≡_, sym, ap, _∙_}
-use mathlib.Core.Bool.{Bool, true, false, cond, not}
+use Prim.Native.Nat.{ℕ, _+_, _-_, _≤_, _<_}
+use mathlib.Core.Path.{_≡_}
+use mathlib.Core.Bool.{Bool, true, false, not}
 use mathlib.Core.List.{List}
-use lib.ListN.{length, getD, drop, drop-of-length-le}
-use lib.Seq.{drop-cons}
-use Rattle.utf8.specs.Utf8.{same}
+use lib.ListN.{length, getD}
 use Rattle.json.specs.Tree.{Json}
-use Rattle.nodes.specs.Access.{Member, isArrayValue, nameOf, textOf}
+use Rattle.nodes.specs.Access.{Member, isArrayValue, textOf}
 use Rattle.nodes.specs.Laws.{rawOf, string-at, text-at}
 use Rattle.nodes.specs.Parts.{textAt}
 use Rattle.nodes.specs.Says.{Sought, Gives}
 use Rattle.nodes.specs.declared.Found.{Found}
 use Rattle.nodes.specs.declared.Found.the-variants.{At, Nothing}
 use Rattle.ids.specs.Says.{TextNode, Offsets, Objects, namesOf, Numbers}
-use Rattle.ids.proofs.Rules.{object-node, name-text}
 use Rattle.model.specs.Code.{le}
 use Rattle.model.specs.Model.{numberOf}
 use Rattle.writer.specs.Writes.{Writes, Closes}
@@ -27,42 +22,6 @@ use Rattle.records.specs.Fits.{Text}
 use Rattle.records.specs.Bytes.{numbersIn}
 use Rattle.records.specs.Says.{NumbersWrote, LinksWrote}
 use Rattle.records.proofs.Nodes.{laying-same, each-none, each-other, each-done, closed-found, found-onward}
-
--- ---- the number of one object
-
--- the number among the members from the k-th on
-number-cons : (u : List ℕ) (ms : List Member) (k : ℕ) (d : Member) → k < length ms → numberOf (namesOf (drop k ms)) u ≡ cond (same (nameOf (getD ms k d)) u) 0 (suc (numberOf (namesOf (drop (k + 1) ms)) u))
-unfolding numberOf namesOf
-number-cons u ms k d h = rw (add-one, drop-cons ms k d)
-
--- A search for the number of the object with the text at the node i has come to the k-th
-pub record Numbering (x t offsets : List ℕ) (count i k : ℕ) : Type 0 where
-  pub some : Objects x t offsets count
-  pub left : (ms : List Member) → Offsets x t ms offsets count → k + numberOf (namesOf (drop k ms)) (textAt x t i) ≡ numberOf (namesOf ms) (textAt x t i)
-
-module _ {x t offsets : List ℕ} {count i : ℕ} where
-  pub number-begin : Objects x t offsets count → Numbering x t offsets count i 0
-  number-begin s = record { some = s; left = λ ms o. omega arith }
-
-  module _ {k : ℕ} {b : Bool} (s : Numbering x t offsets count i k) (l : k < count) (q : b ≡ same (textAt x t (getD offsets k 0)) (textAt x t i)) where
-    -- b tells whether the k-th is it
-    told : (ms : List Member) → Offsets x t ms offsets count → k + cond b 0 (suc (numberOf (namesOf (drop (k + 1) ms)) (textAt x t i))) ≡ numberOf (namesOf ms) (textAt x t i)
-    told ms o =
-        let d = object-node (s .some) l .it in
-        let e : b ≡ same (nameOf (getD ms k d)) (textAt x t i) = rw (name-text (o .each k d l)) q in
-        rw e (ap (λ n. k + n) (sym (number-cons (textAt x t i) ms k d (omega (arith, o .all))))) ∙ s .left ms o
-
-    pub number-found : b ≡ true → Numbers x t offsets count i k
-    number-found h = record { is = λ ms o. omega (arith, rw h at (told ms o)) }
-
-    pub number-again : b ≡ false → Numbering x t offsets count i (k + 1)
-    number-again h = record { some = s .some; left = λ ms o. omega (arith, rw h at (told ms o)) }
-
-  pub number-done : {k : ℕ} → Numbering x t offsets count i k → count ≤ k → Numbers x t offsets count i k
-  unfolding numberOf namesOf
-  number-done {k} s h = record {
-    is = λ ms o. omega (arith, rw (drop-of-length-le ms {i = k} (omega (arith, o .all))) at (s .left ms o));
-  }
 
 -- ---- the numbers of a list
 

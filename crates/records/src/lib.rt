@@ -8,7 +8,7 @@ ghost use mathlib.Core.Path.{_≡_};
 ghost use Rattle.strings.specs.Spans.{Span, decodeAt};
 ghost use Rattle.nodes.specs.Says.{Node, Sought};
 ghost use Rattle.words.specs.Words.{isLod};
-ghost use Rattle.ids.specs.Says.{TextNode, Objects, MemberNode, Numbers};
+ghost use Rattle.ids.specs.Says.{Objects, MemberNode, Chains};
 ghost use Rattle.model.specs.Model.{laySurface, lodCode};
 ghost use Rattle.model.specs.Read.{surfaceNamed, lodOf};
 ghost use Rattle.writer.specs.Writes.{Writes};
@@ -196,33 +196,19 @@ fn geometries(text: &[u8], table: &[u32], found: Found, sheet: &mut [u8], at: us
     o
 }
 
-// The number, from 0, of the object whose ID is the string at node i.
-fn number(text: &[u8], table: &[u32], offsets: &[usize; 1024], count: usize, i: usize) -> usize
-    requires { ⌜ (Objects (now text) (now table) (now offsets) count) × (TextNode (now text) (now table) i) ⌝ }
-    ensures { λ r. ⌜ Numbers (now (text .entry)) (now (table .entry)) (now (offsets .entry)) count i r ⌝ }
-{
-    let mut k = 0;
-    while k < count {
-        let name = offsets[k];
-        if ids::same(text, table, name, i) {
-            return k;
-        }
-        k += 1;
-    }
-    k
-}
-
 // The numbers of the objects that the list that was found names.
 fn numbers(
     text: &[u8],
     table: &[u32],
     offsets: &[usize; 1024],
     count: usize,
+    heads: &[u16; 4096],
+    nexts: &[u16; 1024],
     found: Found,
     sheet: &mut [u8],
     at: usize,
 ) -> usize
-    requires { ⌜ (Objects (now text) (now table) (now offsets) count) × (HoldsFound (Elements Text) (now text) (now table) found) ⌝ }
+    requires { ⌜ (Objects (now text) (now table) (now offsets) count) × (Chains (now text) (now table) (now offsets) count (now heads) (now nexts)) × (HoldsFound (Elements Text) (now text) (now table) found) ⌝ }
     ensures { λ r. ⌜ NumbersWrote (now (text .entry)) (now (table .entry)) (now (offsets .entry)) count found (now (sheet .entry)) (now (sheet .exit)) at r ⌝ }
 {
     let Found::At(i) = found else {
@@ -235,7 +221,7 @@ fn numbers(
     let mut o = at;
     let mut k = i + 3;
     while k < n {
-        let other = number(text, table, offsets, count, k);
+        let other = ids::number(text, table, offsets, count, heads, nexts, k);
         o = writer::put4(sheet, o, other as u64);
         k = nodes::next(table, k);
     }
@@ -248,16 +234,28 @@ fn link_record(
     table: &[u32],
     offsets: &[usize; 1024],
     count: usize,
+    heads: &[u16; 4096],
+    nexts: &[u16; 1024],
     found: Found,
     kind: u64,
     sheet: &mut [u8],
     at: usize,
 ) -> usize
-    requires { ⌜ (Objects (now text) (now table) (now offsets) count) × (HoldsFound (Elements Text) (now text) (now table) found) ⌝ }
+    requires { ⌜ (Objects (now text) (now table) (now offsets) count) × (Chains (now text) (now table) (now offsets) count (now heads) (now nexts)) × (HoldsFound (Elements Text) (now text) (now table) found) ⌝ }
     ensures { λ r. ⌜ LinksWrote (now (text .entry)) (now (table .entry)) (now (offsets .entry)) count found kind (now (sheet .entry)) (now (sheet .exit)) at r ⌝ }
 {
     let body = writer::skip(at, 6);
-    let end = numbers(text, table, offsets, count, found, sheet, body);
+    let end = numbers(
+        text,
+        table,
+        offsets,
+        count,
+        heads,
+        nexts,
+        found,
+        sheet,
+        body,
+    );
     writer::close(sheet, at, body, end, kind);
     end
 }
@@ -285,11 +283,13 @@ fn object(
     table: &[u32],
     offsets: &[usize; 1024],
     count: usize,
+    heads: &[u16; 4096],
+    nexts: &[u16; 1024],
     own: usize,
     sheet: &mut [u8],
     at: usize,
 ) -> usize
-    requires { ⌜ (Objects (now text) (now table) (now offsets) count) × (MemberNode (now text) (now table) own) × (Holds ObjectFits (now text) (now table) (own + 3)) ⌝ }
+    requires { ⌜ (Objects (now text) (now table) (now offsets) count) × (Chains (now text) (now table) (now offsets) count (now heads) (now nexts)) × (MemberNode (now text) (now table) own) × (Holds ObjectFits (now text) (now table) (own + 3)) ⌝ }
     ensures { λ r. ⌜ ObjectWrote (now (text .entry)) (now (table .entry)) (now (offsets .entry)) count own (now (sheet .entry)) (now (sheet .exit)) at r ⌝ }
 {
     let i = own + 3;
@@ -297,8 +297,30 @@ fn object(
     let parents = nodes::member(text, table, i, b"parents");
     let geometry = nodes::member(text, table, i, b"geometry");
     let a = identity(text, table, own, sheet, at);
-    let b = link_record(text, table, offsets, count, children, 4, sheet, a);
-    let c = link_record(text, table, offsets, count, parents, 5, sheet, b);
+    let b = link_record(
+        text,
+        table,
+        offsets,
+        count,
+        heads,
+        nexts,
+        children,
+        4,
+        sheet,
+        a,
+    );
+    let c = link_record(
+        text,
+        table,
+        offsets,
+        count,
+        heads,
+        nexts,
+        parents,
+        5,
+        sheet,
+        b,
+    );
     geometries(text, table, geometry, sheet, c)
 }
 
@@ -308,17 +330,19 @@ fn objects(
     table: &[u32],
     offsets: &[usize; 1024],
     count: usize,
+    heads: &[u16; 4096],
+    nexts: &[u16; 1024],
     sheet: &mut [u8],
     at: usize,
 ) -> usize
-    requires { ⌜ Placed (now text) (now table) (now offsets) count ⌝ }
+    requires { ⌜ (Placed (now text) (now table) (now offsets) count) × (Chains (now text) (now table) (now offsets) count (now heads) (now nexts)) ⌝ }
     ensures { λ r. ⌜ ObjectsWrote (now (text .entry)) (now (table .entry)) (now (offsets .entry)) count (now (sheet .entry)) (now (sheet .exit)) at r ⌝ }
 {
     let mut o = at;
     let mut k = 0;
     while k < count {
         let own = offsets[k];
-        o = object(text, table, offsets, count, own, sheet, o);
+        o = object(text, table, offsets, count, heads, nexts, own, sheet, o);
         k += 1;
     }
     o
@@ -372,7 +396,10 @@ pub fn sheet(text: &[u8], table: &[u32], index: Index, sheet: &mut [u8]) -> usiz
     let b = vertices(text, table, j, sheet, a);
     let offsets = index.offsets;
     let count = index.count;
-    let c = objects(text, table, &offsets, count, sheet, b);
+    let mut heads: [u16; 4096] = [0; 4096];
+    let mut nexts: [u16; 1024] = [0; 1024];
+    ids::fill(text, table, &offsets, count, &mut heads, &mut nexts);
+    let c = objects(text, table, &offsets, count, &heads, &nexts, sheet, b);
     let end = writer::skip(c, 6);
     writer::close(sheet, c, end, end, 9);
     end

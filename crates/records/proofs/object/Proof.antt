@@ -10,15 +10,15 @@ use Rattle.records.proofs.object.Tie as tie
 
 link-record-requires : tie.Need-link-record-requires
 unfolding ascii
-link-record-requires c κs = ((c .before .before .before .before .before .before .before .before .before .before .before .before .before .before .pre .0), perhaps-found "children" (seeks-find "children" refl (c .before .before .before .before .before .before .before .before .before .member .ensures)) _ (object-children (c .before .before .before .before .before .before .before .before .before .before .before .before .before .before .pre .2)))
+link-record-requires c κs = ((c .before .before .before .before .before .before .before .before .before .before .before .before .before .before .pre .0), (c .before .before .before .before .before .before .before .before .before .before .before .before .before .before .pre .1), perhaps-found "children" (seeks-find "children" refl (c .before .before .before .before .before .before .before .before .before .member .ensures)) _ (object-children (c .before .before .before .before .before .before .before .before .before .before .before .before .before .before .pre .3)))
 
 link-record-requires-2 : tie.Need-link-record-requires-2
 unfolding ascii
-link-record-requires-2 c κs = ((c .before .before .before .before .before .before .before .before .before .before .before .before .before .before .before .before .before .before .pre .0), perhaps-found "parents" (seeks-find "parents" refl (c .before .before .before .before .before .before .before .before .before .before .before .member2 .ensures)) _ (object-parents (c .before .before .before .before .before .before .before .before .before .before .before .before .before .before .before .before .before .before .pre .2)))
+link-record-requires-2 c κs = ((c .before .before .before .before .before .before .before .before .before .before .before .before .before .before .before .before .before .before .pre .0), (c .before .before .before .before .before .before .before .before .before .before .before .before .before .before .before .before .before .before .pre .1), perhaps-found "parents" (seeks-find "parents" refl (c .before .before .before .before .before .before .before .before .before .before .before .member2 .ensures)) _ (object-parents (c .before .before .before .before .before .before .before .before .before .before .before .before .before .before .before .before .before .before .pre .3)))
 
 geometries-requires : tie.Need-geometries-requires
 unfolding ascii
-geometries-requires c κs = perhaps-found "geometry" (seeks-find "geometry" refl (c .before .before .before .before .before .before .before .before .before .before .before .before .before .member3 .ensures)) _ (object-geometries (c .before .before .before .before .before .before .before .before .before .before .before .before .before .before .before .before .before .before .before .before .before .before .pre .2))
+geometries-requires c κs = perhaps-found "geometry" (seeks-find "geometry" refl (c .before .before .before .before .before .before .before .before .before .before .before .before .before .member3 .ensures)) _ (object-geometries (c .before .before .before .before .before .before .before .before .before .before .before .before .before .before .before .before .before .before .before .before .before .before .pre .3))
 
 returns : tie.Need-returns
 unfolding ascii
