@@ -1,1 +1,6 @@
 pub mod Rules
+pub mod Split
+pub mod Marks
+pub mod Marking
+pub mod Answering
+pub mod Sweeps

@@ -1,4 +1,5 @@
 -- Rules 15 to 17 of document 01.
 pub mod Links
+pub mod Passes
 pub mod Says
 pub mod Examples

@@ -1,51 +1,30 @@
 -- What the functions over links ask and tell. Assumes nothing: these are definitions.
 use mathlib.Core.Path.{_≡_}
-use mathlib.Core.Bool.{Bool, cond, not, _&&_}
+use mathlib.Core.Bool.{Bool, false}
 use mathlib.Core.List.{List, [], _∷_, _++_}
-use mathlib.Core.Option.{Option, none, some}
-use Prim.Native.Nat.{ℕ, _+_, _≤_}
+use mathlib.Core.Option.{Option}
+use Prim.Native.Nat.{ℕ, _+_, _*_, _<_, _≤_}
 use Prim.Native.String.{String}
-use lib.ListN.{length}
-use Rattle.utf8.specs.Ascii.{ascii}
-use Rattle.json.specs.Tree.{Json, Items}
-use Rattle.json.specs.Table.{sizes, Sub, Subs}
-use Rattle.nodes.specs.Access.{isStringValue, listed, members, Member, firstNamed}
-use Rattle.nodes.specs.Everywhere.{among}
+use lib.ListN.{length, getD}
+use Rattle.grid.specs.Grid.{holds}
+use Rattle.json.specs.Tree.{Json}
+use Rattle.json.specs.Table.{Sub}
+use Rattle.model.specs.Model.{numberOf}
+use Rattle.nodes.specs.Access.{Member}
 use Rattle.nodes.specs.Faults.{least}
-use Rattle.nodes.specs.Parts.{textAt}
 use Rattle.nodes.specs.Says.{Finds, Gives, GivesFound}
 use Rattle.nodes.specs.declared.Found.{Found}
-use Rattle.shapes.specs.Checks.{isSome}
 use Rattle.fields.specs.Fields.{objectsOf}
-use Rattle.fields.specs.Says.{MemberAt, Indexed}
+use Rattle.fields.specs.Says.{Indexed}
 use Rattle.fields.specs.declared.Index.{Index}
-use Rattle.ids.specs.Says.{Offsets}
-use Rattle.links.specs.Links.{elementsIn, idsAmong, link, linksFrom, linksOf, linkFaults}
+use Rattle.ids.specs.Says.{Offsets, Objects, Chains, namesOf}
+use Rattle.links.specs.Links.{elementsIn, listedIn, idsAmong, linksOfEach, linkFaults}
+use Rattle.links.specs.Passes.{absentAt, absent, openAt, openIn, absentOf, openOf, absentOfEach, openOfEach, marks}
 
--- what was found is the first of these members whose name is the text at the node k
-pub record FindsObject (x t offsets : List ℕ) (count k : ℕ) (found : Found) : Type 0 where
-  pub is : (ms : List Member) → Offsets x t ms offsets count → Finds x t (firstNamed (textAt x t k) ms) found
-
--- values stand from the node `first` on up to the node `limit`, in a text that is short enough (rule 1)
-pub record Before (x t : List ℕ) (first limit : ℕ) : Type 0 where
-  pub items : Items
-  pub stand : Subs x t first items
-  pub ends : first + sizes items ≡ limit
-  pub short : length x ≤ 65535
-
--- r tells whether the text at the node j is among the strings of those values
-pub record Amongst (x t : List ℕ) (first limit j : ℕ) (r : Bool) : Type 0 where
-  pub is : (us : Items) → Subs x t first us → first + sizes us ≡ limit → r ≡ among (idsAmong (listed us)) (textAt x t j)
-
--- the IDs that an object lists under a name that is written as bytes, if there is an object
-unfoldable pub idsUnder : List ℕ → Option Json → List (List ℕ)
-unfolding idsAmong elementsIn firstNamed members
-idsUnder name none = []
-idsUnder name (some o) = idsAmong (elementsIn (firstNamed name (members o)))
-
--- r tells whether rule 15 is kept: the linked object was found, and the text at the node k is not among the strings of the values before it
-pub record Fresh (x t : List ℕ) (other : Found) (first k : ℕ) (r : Bool) : Type 0 where
-  pub is : (o : Option Json) → Finds x t o other → (us : Items) → Subs x t first us → first + sizes us ≡ k → r ≡ (isSome o && not (among (idsAmong (listed us)) (textAt x t k)))
+-- the objects, and the chains of their IDs
+pub record Numbered (x t offsets : List ℕ) (count : ℕ) (heads nexts : List ℕ) : Type 0 where
+  pub objects : Objects x t offsets count
+  pub chains : Chains x t offsets count heads nexts
 
 -- the IDs of a list of values and those that were listed before, the last first
 unfoldable pub seen : List (List ℕ) → List Json → List (List ℕ)
@@ -53,23 +32,78 @@ unfolding idsAmong
 seen earlier [] = earlier
 seen earlier (v ∷ vs) = seen (idsAmong (v ∷ []) ++ earlier) vs
 
--- the faults of one value of a list of links, after those that were listed earlier
-unfoldable pub entry : List Member → String → List ℕ → Bool → List (List ℕ) → Json → List ℕ
-unfolding isStringValue link
-entry objects back id excused earlier s = cond (isStringValue s) (link objects back id excused earlier s) []
+-- the row of the set g has the numbers of just the objects that some IDs name
+pub record Row (names : List (List ℕ)) (g : List ℕ) (row : ℕ) (ids : List (List ℕ)) : Type 0 where
+  pub is : (n : ℕ) → n < length names → holds g row n ≡ marks names ids n
 
--- r is the least of best and of the faults of the value at the node k of the list that begins at the node `first`
-pub record EntryGives (x t offsets : List ℕ) (count own : ℕ) (back : List ℕ) (excused : Bool) (first k best r : ℕ) : Type 0 where
-  pub is : (ms : List Member) → Offsets x t ms offsets count → (name : String) → back ≡ ascii name → (us : Items) → Subs x t first us → first + sizes us ≡ k
-      → Gives (λ s. least best (entry ms name (textAt x t own) excused (seen [] (listed us)) s)) x t k r
+-- the sets g and g′ differ in one row at most
+pub record Beside (g g′ : List ℕ) (row : ℕ) : Type 0 where
+  pub room : length g′ ≡ length g
+  pub others : (a b : ℕ) → a * 128 + 128 ≤ length g → b < 1024 → (a ≡ row → ⊥) → holds g′ a b ≡ holds g a b
 
--- r is the least of best and of the faults of the list of links that was found, if there is one
-pub record ListGives (x t offsets : List ℕ) (count own : ℕ) (back : List ℕ) (excused : Bool) (found : Found) (best r : ℕ) : Type 0 where
-  pub is : (ms : List Member) → Offsets x t ms offsets count → (name : String) → back ≡ ascii name → GivesFound (λ o. least best (linksFrom ms name (textAt x t own) excused [] (elementsIn o))) x t found r
+-- r is the least of best and of the fault of rule 15 of the value at the node k, whose object is then in the row
+pub record MarkGives (x t offsets : List ℕ) (count row k : ℕ) (g g′ : List ℕ) (best r : ℕ) : Type 0 where
+  pub beside : Beside g g′ row
+  pub is : (ms : List Member) → Offsets x t ms offsets count → (earlier : List (List ℕ)) → Row (namesOf ms) g row earlier → (v : Json) → Sub x t k v
+      → (r ≡ least best (absentAt ms earlier v)) × (Row (namesOf ms) g′ row (idsAmong (v ∷ []) ++ earlier))
 
--- r is the least of best and of the faults of the links of the member at the node `own`
-pub record MemberGives (x t offsets : List ℕ) (count own best r : ℕ) : Type 0 where
-  pub is : (ms : List Member) → Offsets x t ms offsets count → (m : Member) → MemberAt x t own m → r ≡ least best (linksOf ms m)
+-- the same of the list that was found, where the row was empty
+pub record MarksGive (x t offsets : List ℕ) (count row : ℕ) (found : Found) (g g′ : List ℕ) (best r : ℕ) : Type 0 where
+  pub beside : Beside g g′ row
+  pub is : (ms : List Member) → Offsets x t ms offsets count → Row (namesOf ms) g row [] → (o : Option Json) → Finds x t o found
+      → (r ≡ least best (absent ms [] (elementsIn o))) × (Row (namesOf ms) g′ row (seen [] (elementsIn o)))
+
+-- the rows of g before the k-th have what the objects list under a name, the others are empty
+pub record RowsTo (ms : List Member) (name : String) (g : List ℕ) (k : ℕ) : Type 0 where
+  pub done : (j : ℕ) (d : Member) → j < k → Row (namesOf ms) g j (seen [] (listedIn name (getD ms j d .1)))
+  pub left : (j : ℕ) → k ≤ j → j < length ms → Row (namesOf ms) g j []
+
+-- rule 15 of the object of number k: the rows of its children and parents are filled
+pub record ObjectMarks (x t offsets : List ℕ) (count k : ℕ) (c c′ p p′ : List ℕ) (best r : ℕ) : Type 0 where
+  pub children : length c′ ≡ length c
+  pub parents : length p′ ≡ length p
+  pub is : (ms : List Member) → Offsets x t ms offsets count → (d : Member) → RowsTo ms "children" c k → RowsTo ms "parents" p k
+      → (r ≡ least best (absentOf ms (getD ms k d))) × (RowsTo ms "children" c′ (k + 1)) × (RowsTo ms "parents" p′ (k + 1))
+
+-- rule 15 of all objects: all rows are filled
+pub record AllMarks (x t offsets : List ℕ) (count : ℕ) (c c′ p p′ : List ℕ) (best r : ℕ) : Type 0 where
+  pub children : length c′ ≡ length c
+  pub parents : length p′ ≡ length p
+  pub is : (ms : List Member) → Offsets x t ms offsets count → RowsTo ms "children" c 0 → RowsTo ms "parents" p 0
+      → (r ≡ least best (absentOfEach ms ms)) × (RowsTo ms "children" c′ count) × (RowsTo ms "parents" p′ count)
+
+-- the sets have what all objects list
+pub record Filled (x t offsets : List ℕ) (count : ℕ) (c p : List ℕ) : Type 0 where
+  pub below : count * 128 ≤ length c
+  pub above : count * 128 ≤ length p
+  pub children : (ms : List Member) → Offsets x t ms offsets count → RowsTo ms "children" c count
+  pub parents : (ms : List Member) → Offsets x t ms offsets count → RowsTo ms "parents" p count
+
+-- r is the least of best and of the fault of rule 17 of the value at the node k, of a list of the object of number `own`, where g has what all objects list under `back`
+pub record OpenGives (x t offsets : List ℕ) (count own k : ℕ) (g : List ℕ) (best r : ℕ) : Type 0 where
+  pub is : (ms : List Member) → Offsets x t ms offsets count → (back : String) → RowsTo ms back g count → (id : List ℕ) → own ≡ numberOf (namesOf ms) id
+      → Gives (λ s. least best (openAt ms back id false s)) x t k r
+
+-- the same of the list that was found, unless it is excused
+pub record OpensGive (x t offsets : List ℕ) (count own : ℕ) (excused : Bool) (found : Found) (g : List ℕ) (best r : ℕ) : Type 0 where
+  pub is : (ms : List Member) → Offsets x t ms offsets count → (back : String) → RowsTo ms back g count → (id : List ℕ) → own ≡ numberOf (namesOf ms) id
+      → GivesFound (λ o. least best (openIn ms back id excused (elementsIn o))) x t found r
+
+-- rules 16 and 17 of the object of number k, and of all objects
+pub record ObjectOpens (x t offsets : List ℕ) (count k best r : ℕ) : Type 0 where
+  pub is : (ms : List Member) → Offsets x t ms offsets count → (d : Member) → r ≡ least best (openOf ms (getD ms k d))
+
+pub record AllOpens (x t offsets : List ℕ) (count best r : ℕ) : Type 0 where
+  pub is : (ms : List Member) → Offsets x t ms offsets count → r ≡ least best (openOfEach ms ms)
+
+-- the set g is empty, and has a row for each of `count` objects
+pub record Empty (g : List ℕ) (count : ℕ) : Type 0 where
+  pub room : count * 128 ≤ length g
+  pub clear : (i : ℕ) → getD g i 0 ≡ 0
+
+-- rules 15 to 17 of all objects
+pub record AllGive (x t offsets : List ℕ) (count best r : ℕ) : Type 0 where
+  pub is : (ms : List Member) → Offsets x t ms offsets count → r ≡ least best (linksOfEach ms ms)
 
 -- a value of a text that is short enough stands at the node 0, and it has at most 1,024 city objects (rule 9), of which the index is
 pub record Ready (x t : List ℕ) (index : Index) : Type 0 where

@@ -1,143 +1,62 @@
 // Rules 15 to 17 over the node table of a text and the index of its city objects. Each function that looks for faults takes the least so far and gives the least.
+// Rule 15 goes first and fills two sets of pairs of objects' numbers: who lists whom as a child, and who lists whom as a parent. Rule 17 then asks the sets.
 use fields::Index;
 use nodes::Found;
-ghost use Prim.Native.Nat.{_+_, _<_};
-ghost use mathlib.Core.Bool.{_&&_};
-ghost use mathlib.Core.Option as option;
-ghost use Rattle.utf8.specs.Utf8 as utf8;
+ghost use Prim.Native.Nat.{ℕ, _+_, _*_, _<_, _≤_};
+ghost use mathlib.Core.Path.{_≡_};
+ghost use lib.ListN.{length, getD};
 ghost use Rattle.nodes.specs.Access as access;
-ghost use Rattle.nodes.specs.Everywhere as everywhere;
 ghost use Rattle.nodes.specs.Faults.{least};
-ghost use Rattle.nodes.specs.Parts.{textAt};
-ghost use Rattle.nodes.specs.Says.{Node, Sought, Seeks, Gives, GivesFound};
-ghost use Rattle.ids.specs.Says.{TextNode, Objects, MemberNode};
-ghost use Rattle.links.specs.Links.{hasParent, linkFaults};
-ghost use Rattle.links.specs.Says.{FindsObject, Before, Amongst, idsUnder, Fresh, EntryGives, ListGives, MemberGives, Ready, LinksGive};
+ghost use Rattle.nodes.specs.Says.{Node, Sought, Seeks, Gives};
+ghost use Rattle.ids.specs.Says.{Objects};
+ghost use Rattle.links.specs.Links.{hasParent};
+ghost use Rattle.links.specs.Says.{Numbered, MarkGives, MarksGive, ObjectMarks, AllMarks, Filled, OpenGives, OpensGive, ObjectOpens, AllOpens, Empty, AllGive, Ready, LinksGive};
 
-// The node of the first object whose ID is the string at node i.
-fn find(text: &[u8], table: &[u32], offsets: &[usize; 1024], count: usize, i: usize) -> Found
-    requires { ⌜ (Objects (now text) (now table) (now offsets) count) × (TextNode (now text) (now table) i) ⌝ }
-    ensures { λ r. ⌜ FindsObject (now (text .entry)) (now (table .entry)) (now (offsets .entry)) count i r ⌝ }
-{
-    let mut k = 0;
-    while k < count {
-        let name = offsets[k];
-        if ids::same(text, table, i, name) {
-            let object = name + 3;
-            return Found::At(object);
-        }
-        k += 1;
-    }
-    Found::Nothing
-}
-
-// Is the value at node i a string that stands for the same text as the string or name at node j?
-fn is_text(text: &[u8], table: &[u32], i: usize, j: usize) -> bool
-    requires { ⌜ (Node (now text) (now table) i) × (TextNode (now text) (now table) j) ⌝ }
-    ensures { λ r. ⌜ Gives (λ v. access.isStringValue v && utf8.same (access.textOf v) (textAt (now (text .entry)) (now (table .entry)) j)) (now (text .entry)) (now (table .entry)) i r ⌝ }
-{
-    if !nodes::is_string(text, table, i) {
-        return false;
-    }
-    ids::same(text, table, i, j)
-}
-
-// Is the string or name at node j among the strings that stand from the node `first` on before the node `limit`?
-fn among(text: &[u8], table: &[u32], first: usize, limit: usize, j: usize) -> bool
-    requires { ⌜ (Before (now text) (now table) first limit) × (TextNode (now text) (now table) j) ⌝ }
-    ensures { λ r. ⌜ Amongst (now (text .entry)) (now (table .entry)) first limit j r ⌝ }
-{
-    let mut i = first;
-    while i < limit {
-        if is_text(text, table, i, j) {
-            return true;
-        }
-        i = nodes::next(table, i);
-    }
-    false
-}
-
-// Does the object at node i list the string or name at node j under that name?
-fn lists(text: &[u8], table: &[u32], i: usize, name: &[u8], j: usize) -> bool
-    requires { ⌜ (Node (now text) (now table) i) × (TextNode (now text) (now table) j) ⌝ }
-    ensures { λ r. ⌜ Gives (λ v. everywhere.among (idsUnder (now (name .entry)) (option.some v)) (textAt (now (text .entry)) (now (table .entry)) j)) (now (text .entry)) (now (table .entry)) i r ⌝ }
-{
-    let found = nodes::member(text, table, i, name);
-    let Found::At(k) = found else {
-        return false;
-    };
-    if !nodes::is_array(text, table, k) {
-        return false;
-    }
-    let n = nodes::next(table, k);
-    among(text, table, k + 3, n, j)
-}
-
-// Was an object found that lists the string or name at node j under that name?
-fn answers(text: &[u8], table: &[u32], other: Found, name: &[u8], j: usize) -> bool
-    requires { ⌜ (Sought (now text) (now table) other) × (TextNode (now text) (now table) j) ⌝ }
-    ensures { λ r. ⌜ GivesFound (λ o. everywhere.among (idsUnder (now (name .entry)) o) (textAt (now (text .entry)) (now (table .entry)) j)) (now (text .entry)) (now (table .entry)) other r ⌝ }
-{
-    let Found::At(i) = other else {
-        return false;
-    };
-    lists(text, table, i, name, j)
-}
-
-// Was the object found that the string at node k names, and is the string not among those from the node `first` on before it?
-fn fresh(text: &[u8], table: &[u32], other: Found, first: usize, k: usize) -> bool
-    requires { ⌜ (Before (now text) (now table) first k) × (TextNode (now text) (now table) k) ⌝ }
-    ensures { λ r. ⌜ Fresh (now (text .entry)) (now (table .entry)) other first k r ⌝ }
-{
-    let Found::At(_) = other else {
-        return false;
-    };
-    !among(text, table, first, k, k)
-}
-
-// Rules 15 and 17 of the link at node k, if a string stands there, of the list whose elements begin at node `first`, from the object whose name stands at node `own`.
-fn link(
+// Rule 15 of the value at node k, if it is a string, of a list of the object of number `row`: its object is there, and not yet in the row of the set. Then it is.
+fn mark(
     text: &[u8],
     table: &[u32],
     offsets: &[usize; 1024],
     count: usize,
-    own: usize,
-    back: &[u8],
-    excused: bool,
-    first: usize,
+    heads: &[u16; 4096],
+    nexts: &[u16; 1024],
+    set: &mut [u8],
+    row: usize,
     k: usize,
     best: u32,
 ) -> u32
-    requires { ⌜ (Objects (now text) (now table) (now offsets) count) × (TextNode (now text) (now table) own) × (Before (now text) (now table) first k) × (Node (now text) (now table) k) ⌝ }
-    ensures { λ r. ⌜ EntryGives (now (text .entry)) (now (table .entry)) (now (offsets .entry)) count own (now (back .entry)) excused first k best r ⌝ }
+    requires { ⌜ (Numbered (now text) (now table) (now offsets) count (now heads) (now nexts)) × (Node (now text) (now table) k) × (row * 128 + 128 ≤ length (now set)) ⌝ }
+    ensures { λ r. ⌜ MarkGives (now (text .entry)) (now (table .entry)) (now (offsets .entry)) count row k (now (set .entry)) (now (set .exit)) best r ⌝ }
 {
     if !nodes::is_string(text, table, k) {
         return best;
     }
-    let other = find(text, table, offsets, count, k);
-    let kept = fresh(text, table, other, first, k);
-    let a = shapes::unless(kept, 15, text, table, k, best);
-    if excused {
-        return a;
+    let other = ids::number(text, table, offsets, count, heads, nexts, k);
+    if other >= count {
+        return shapes::unless(false, 15, text, table, k, best);
     }
-    let answered = answers(text, table, other, back, own);
-    shapes::unless(answered, 17, text, table, k, a)
+    if grid::has(set, row, other) {
+        return shapes::unless(false, 15, text, table, k, best);
+    }
+    grid::put(set, row, other);
+    best
 }
 
-// Rules 15 and 17 of a list of links, if one was found.
-fn links_of(
+// Rule 15 of the list that was found, of the object of number `row`, whose row of the set is empty; afterwards it has the objects of the list.
+fn mark_list(
     text: &[u8],
     table: &[u32],
     offsets: &[usize; 1024],
     count: usize,
-    own: usize,
-    back: &[u8],
-    excused: bool,
+    heads: &[u16; 4096],
+    nexts: &[u16; 1024],
+    set: &mut [u8],
+    row: usize,
     found: Found,
     best: u32,
 ) -> u32
-    requires { ⌜ (Objects (now text) (now table) (now offsets) count) × (TextNode (now text) (now table) own) × (Sought (now text) (now table) found) ⌝ }
-    ensures { λ r. ⌜ ListGives (now (text .entry)) (now (table .entry)) (now (offsets .entry)) count own (now (back .entry)) excused found best r ⌝ }
+    requires { ⌜ (Numbered (now text) (now table) (now offsets) count (now heads) (now nexts)) × (Sought (now text) (now table) found) × (row * 128 + 128 ≤ length (now set)) ⌝ }
+    ensures { λ r. ⌜ MarksGive (now (text .entry)) (now (table .entry)) (now (offsets .entry)) count row found (now (set .entry)) (now (set .exit)) best r ⌝ }
 {
     let Found::At(i) = found else {
         return best;
@@ -146,19 +65,172 @@ fn links_of(
         return best;
     }
     let n = nodes::next(table, i);
-    let first = i + 3;
     let mut least = best;
-    let mut k = first;
+    let mut k = i + 3;
     while k < n {
-        least = link(
+        least = mark(
             text,
             table,
             offsets,
             count,
+            heads,
+            nexts,
+            set,
+            row,
+            k,
+            least,
+        );
+        k = nodes::next(table, k);
+    }
+    least
+}
+
+// Rule 15 of the object of number k; afterwards the sets have what it lists.
+fn mark_object(
+    text: &[u8],
+    table: &[u32],
+    offsets: &[usize; 1024],
+    count: usize,
+    heads: &[u16; 4096],
+    nexts: &[u16; 1024],
+    children: &mut [u8],
+    parents: &mut [u8],
+    k: usize,
+    best: u32,
+) -> u32
+    requires { ⌜ (Numbered (now text) (now table) (now offsets) count (now heads) (now nexts)) × (k < count) × (count * 128 ≤ length (now children)) × (count * 128 ≤ length (now parents)) ⌝ }
+    ensures { λ r. ⌜ ObjectMarks (now (text .entry)) (now (table .entry)) (now (offsets .entry)) count k (now (children .entry)) (now (children .exit)) (now (parents .entry)) (now (parents .exit)) best r ⌝ }
+{
+    let own = offsets[k];
+    let i = own + 3;
+    let below = nodes::member(text, table, i, b"children");
+    let above = nodes::member(text, table, i, b"parents");
+    let a = mark_list(
+        text,
+        table,
+        offsets,
+        count,
+        heads,
+        nexts,
+        children,
+        k,
+        below,
+        best,
+    );
+    mark_list(
+        text,
+        table,
+        offsets,
+        count,
+        heads,
+        nexts,
+        parents,
+        k,
+        above,
+        a,
+    )
+}
+
+// Rule 15 of all objects; afterwards the sets, which were empty, have what they list.
+fn mark_all(
+    text: &[u8],
+    table: &[u32],
+    offsets: &[usize; 1024],
+    count: usize,
+    heads: &[u16; 4096],
+    nexts: &[u16; 1024],
+    children: &mut [u8],
+    parents: &mut [u8],
+    best: u32,
+) -> u32
+    requires { ⌜ (Numbered (now text) (now table) (now offsets) count (now heads) (now nexts)) × (count * 128 ≤ length (now children)) × (count * 128 ≤ length (now parents)) ⌝ }
+    ensures { λ r. ⌜ AllMarks (now (text .entry)) (now (table .entry)) (now (offsets .entry)) count (now (children .entry)) (now (children .exit)) (now (parents .entry)) (now (parents .exit)) best r ⌝ }
+{
+    let mut least = best;
+    let mut k = 0;
+    while k < count {
+        least = mark_object(
+            text,
+            table,
+            offsets,
+            count,
+            heads,
+            nexts,
+            children,
+            parents,
+            k,
+            least,
+        );
+        k += 1;
+    }
+    least
+}
+
+// Rule 17 of the value at node k, if it is a string, of a list of the object of number `own`: its object has `own` in its row of the set.
+fn answer(
+    text: &[u8],
+    table: &[u32],
+    offsets: &[usize; 1024],
+    count: usize,
+    heads: &[u16; 4096],
+    nexts: &[u16; 1024],
+    set: &[u8],
+    own: usize,
+    k: usize,
+    best: u32,
+) -> u32
+    requires { ⌜ (Numbered (now text) (now table) (now offsets) count (now heads) (now nexts)) × (Node (now text) (now table) k) × (own < count) × (count * 128 ≤ length (now set)) ⌝ }
+    ensures { λ r. ⌜ OpenGives (now (text .entry)) (now (table .entry)) (now (offsets .entry)) count own k (now (set .entry)) best r ⌝ }
+{
+    if !nodes::is_string(text, table, k) {
+        return best;
+    }
+    let other = ids::number(text, table, offsets, count, heads, nexts, k);
+    if other >= count {
+        return shapes::unless(false, 17, text, table, k, best);
+    }
+    shapes::unless(grid::has(set, other, own), 17, text, table, k, best)
+}
+
+// Rule 17 of the list that was found, of the object of number `own`, unless it is excused.
+fn answer_list(
+    text: &[u8],
+    table: &[u32],
+    offsets: &[usize; 1024],
+    count: usize,
+    heads: &[u16; 4096],
+    nexts: &[u16; 1024],
+    set: &[u8],
+    own: usize,
+    excused: bool,
+    found: Found,
+    best: u32,
+) -> u32
+    requires { ⌜ (Numbered (now text) (now table) (now offsets) count (now heads) (now nexts)) × (Sought (now text) (now table) found) × (own < count) × (count * 128 ≤ length (now set)) ⌝ }
+    ensures { λ r. ⌜ OpensGive (now (text .entry)) (now (table .entry)) (now (offsets .entry)) count own excused found (now (set .entry)) best r ⌝ }
+{
+    if excused {
+        return best;
+    }
+    let Found::At(i) = found else {
+        return best;
+    };
+    if !nodes::is_array(text, table, i) {
+        return best;
+    }
+    let n = nodes::next(table, i);
+    let mut least = best;
+    let mut k = i + 3;
+    while k < n {
+        least = answer(
+            text,
+            table,
+            offsets,
+            count,
+            heads,
+            nexts,
+            set,
             own,
-            back,
-            excused,
-            first,
             k,
             least,
         );
@@ -168,59 +240,167 @@ fn links_of(
 }
 
 // Rule 16: a second-level object lists a parent.
-fn has_parent(text: &[u8], table: &[u32], i: usize, parents: Found, best: u32) -> u32
-    requires { ⌜ (Node (now text) (now table) i) × (Seeks (λ v. access.find "parents" v) (now text) (now table) i parents) ⌝ }
+fn has_parent(text: &[u8], table: &[u32], i: usize, kind: Found, parents: Found, best: u32) -> u32
+    requires { ⌜ (Node (now text) (now table) i) × (Seeks (λ v. access.find "type" v) (now text) (now table) i kind) × (Seeks (λ v. access.find "parents" v) (now text) (now table) i parents) ⌝ }
     ensures { λ r. ⌜ Gives (λ v. least best (hasParent v)) (now (text .entry)) (now (table .entry)) i r ⌝ }
 {
-    let kind = nodes::member(text, table, i, b"type");
-    let code = fields::object_code(text, table, kind);
-    if code < 17 {
+    let count = fields::count_found(text, table, parents);
+    if count != 0 {
         return best;
     }
-    let count = fields::count_found(text, table, parents);
-    shapes::unless(count != 0, 16, text, table, i, best)
+    let code = fields::object_code(text, table, kind);
+    shapes::unless(code < 17, 16, text, table, i, best)
 }
 
-// Rules 15 to 17 of the object whose name stands at node `own`.
-fn object_links(
+// Rules 16 and 17 of the object of number k.
+fn answer_object(
     text: &[u8],
     table: &[u32],
     offsets: &[usize; 1024],
     count: usize,
-    own: usize,
+    heads: &[u16; 4096],
+    nexts: &[u16; 1024],
+    children: &[u8],
+    parents: &[u8],
+    k: usize,
     best: u32,
 ) -> u32
-    requires { ⌜ (Objects (now text) (now table) (now offsets) count) × (MemberNode (now text) (now table) own) ⌝ }
-    ensures { λ r. ⌜ MemberGives (now (text .entry)) (now (table .entry)) (now (offsets .entry)) count own best r ⌝ }
+    requires { ⌜ (Numbered (now text) (now table) (now offsets) count (now heads) (now nexts)) × (Filled (now text) (now table) (now offsets) count (now children) (now parents)) × (k < count) ⌝ }
+    ensures { λ r. ⌜ ObjectOpens (now (text .entry)) (now (table .entry)) (now (offsets .entry)) count k best r ⌝ }
 {
-    let i = own + 3;
+    let name = offsets[k];
+    let i = name + 3;
     let kind = nodes::member(text, table, i, b"type");
-    let children = nodes::member(text, table, i, b"children");
-    let parents = nodes::member(text, table, i, b"parents");
+    let down = nodes::member(text, table, i, b"children");
+    let up = nodes::member(text, table, i, b"parents");
     let group = fields::found_word(text, table, kind, b"CityObjectGroup");
-    let a = links_of(
+    let own = ids::number(text, table, offsets, count, heads, nexts, name);
+    let a = answer_list(
         text,
         table,
         offsets,
         count,
+        heads,
+        nexts,
+        parents,
         own,
-        b"parents",
         group,
-        children,
+        down,
         best,
     );
-    let b = links_of(
+    let b = answer_list(
         text,
         table,
         offsets,
         count,
+        heads,
+        nexts,
+        children,
         own,
-        b"children",
         false,
-        parents,
+        up,
         a,
     );
-    has_parent(text, table, i, parents, b)
+    has_parent(text, table, i, kind, up, b)
+}
+
+// Rules 16 and 17 of all objects.
+fn answer_all(
+    text: &[u8],
+    table: &[u32],
+    offsets: &[usize; 1024],
+    count: usize,
+    heads: &[u16; 4096],
+    nexts: &[u16; 1024],
+    children: &[u8],
+    parents: &[u8],
+    best: u32,
+) -> u32
+    requires { ⌜ (Numbered (now text) (now table) (now offsets) count (now heads) (now nexts)) × (Filled (now text) (now table) (now offsets) count (now children) (now parents)) ⌝ }
+    ensures { λ r. ⌜ AllOpens (now (text .entry)) (now (table .entry)) (now (offsets .entry)) count best r ⌝ }
+{
+    let mut least = best;
+    let mut k = 0;
+    while k < count {
+        least = answer_object(
+            text,
+            table,
+            offsets,
+            count,
+            heads,
+            nexts,
+            children,
+            parents,
+            k,
+            least,
+        );
+        k += 1;
+    }
+    least
+}
+
+// Rules 15 to 17 of all objects, with two sets that are empty and have a row for each object.
+fn links_with(
+    text: &[u8],
+    table: &[u32],
+    offsets: &[usize; 1024],
+    count: usize,
+    children: &mut [u8],
+    parents: &mut [u8],
+    best: u32,
+) -> u32
+    requires { ⌜ (Objects (now text) (now table) (now offsets) count) × (Empty (now children) count) × (Empty (now parents) count) ⌝ }
+    ensures { λ r. ⌜ AllGive (now (text .entry)) (now (table .entry)) (now (offsets .entry)) count best r ⌝ }
+{
+    let mut heads: [u16; 4096] = [0; 4096];
+    let mut nexts: [u16; 1024] = [0; 1024];
+    ids::fill(text, table, offsets, count, &mut heads, &mut nexts);
+    let a = mark_all(
+        text,
+        table,
+        offsets,
+        count,
+        &heads,
+        &nexts,
+        children,
+        parents,
+        best,
+    );
+    answer_all(
+        text,
+        table,
+        offsets,
+        count,
+        &heads,
+        &nexts,
+        children,
+        parents,
+        a,
+    )
+}
+
+// Rules 15 to 17 of at most 64 objects. Small sets are cleared sooner.
+fn links_few(text: &[u8], table: &[u32], offsets: &[usize; 1024], count: usize, best: u32) -> u32
+    requires { ⌜ (Objects (now text) (now table) (now offsets) count) × (count ≤ 64) ⌝ }
+    ensures { λ r. ⌜ AllGive (now (text .entry)) (now (table .entry)) (now (offsets .entry)) count best r ⌝ }
+{
+    let mut first: [u8; 8192] = [0; 8192];
+    let mut second: [u8; 8192] = [0; 8192];
+    let children: &mut [u8] = &mut first;
+    let parents: &mut [u8] = &mut second;
+    links_with(text, table, offsets, count, children, parents, best)
+}
+
+// Rules 15 to 17 of at most 1,024 objects.
+fn links_many(text: &[u8], table: &[u32], offsets: &[usize; 1024], count: usize, best: u32) -> u32
+    requires { ⌜ Objects (now text) (now table) (now offsets) count ⌝ }
+    ensures { λ r. ⌜ AllGive (now (text .entry)) (now (table .entry)) (now (offsets .entry)) count best r ⌝ }
+{
+    let mut first: [u8; 131072] = [0; 131072];
+    let mut second: [u8; 131072] = [0; 131072];
+    let children: &mut [u8] = &mut first;
+    let parents: &mut [u8] = &mut second;
+    links_with(text, table, offsets, count, children, parents, best)
 }
 
 // Rules 15 to 17 of all objects of the index.
@@ -230,12 +410,8 @@ pub fn links(text: &[u8], table: &[u32], index: Index, best: u32) -> u32
 {
     let offsets = index.offsets;
     let count = index.count;
-    let mut least = best;
-    let mut k = 0;
-    while k < count {
-        let own = offsets[k];
-        least = object_links(text, table, &offsets, count, own, least);
-        k += 1;
+    if count <= 64 {
+        return links_few(text, table, &offsets, count, best);
     }
-    least
+    links_many(text, table, &offsets, count, best)
 }

@@ -1,27 +1,27 @@
 -- `links::has_parent` meets its contract. Assumes nothing.
-use mathlib.Core.Path.{refl}
-use Rattle.utf8.specs.Ascii.{ascii}
-use Rattle.shapes.specs.Laws.{seeks-find}
-use Rattle.links.proofs.Rules.{links, parent-first, parent-told}
+use Rattle.links.proofs.Rules.{sweeping, sought-in}
+use Rattle.links.proofs.Sweeps.{parent-some, parent-told}
 use Rattle.links.proofs.has_parent.Statement.{statement}
 use Rattle.links.proofs.has_parent.Tie as tie
 
+count-found-requires : tie.Need-count-found-requires
+count-found-requires c κs = sought-in (c .before .before .pre .2) (c .before .before .pre .0)
+
 returns : tie.Need-returns
-unfolding ascii
-returns c = parent-first _ (c .before .before .before .before .before .before .pre .0) (seeks-find "type" refl (c .before .before .member .ensures)) (c .before .before .before .before .before .before .pre .1) (c .before .object-code .ensures) (c .if1 .taken)
+returns c = parent-some _ (c .before .before .before .before .pre .2) (c .before .count-found .ensures) (c .if1 .taken)
+
+object-code-requires : tie.Need-object-code-requires
+object-code-requires c κs = sought-in (c .before .before .before .before .pre .1) (c .before .before .before .before .pre .0)
 
 returns-2 : tie.Need-returns-2
-unfolding ascii
-returns-2 c = parent-told _ (c .before .before .before .before .before .before .before .before .pre .0) (seeks-find "type" refl (c .before .before .before .before .member .ensures)) (c .before .before .before .before .before .before .before .before .pre .1) (c .before .before .before .object-code .ensures) (c .before .before .if1 .left) (c .before .count-found .ensures) (c .unless .ensures)
+returns-2 c = parent-told _ (c .before .before .before .before .before .before .pre .2) (c .before .before .before .count-found .ensures) (c .before .before .if1 .left) (c .before .before .before .before .before .before .pre .1) (c .before .object-code .ensures) (c .unless .ensures)
 
 pub has-parent-spec : {M : Type 1} → statement M
 has-parent-spec =
     tie.close
     (tie.spec
-    (λ c. search links)
-    (λ c κs. search links)
-    (λ c κs. search links)
+    count-found-requires
     returns
-    (λ c κs. search links)
-    (λ c κs. search links)
+    object-code-requires
+    (λ c κs. search sweeping)
     returns-2)

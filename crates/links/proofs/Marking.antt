@@ -1,0 +1,224 @@
+-- Rule 15 of the values of a list, one after the other: the row of the object that lists them has the objects so far. Assumes nothing.
+use Prim.Native.Nat.{ℕ, _+_, _-_, _*_, _≤_, _<_}
+use native.Mathlib.Omega.{arith}
+use mathlib.Core.Path.{_≡_, refl, sym, ap, _∙_, subst}
+use mathlib.Core.Bool.{Bool, true, false, cond, not, _||_, _&&_}
+use mathlib.Core.List.{List, [], _∷_, _++_, map}
+use mathlib.Core.Option.{Option, none, some}
+use lib.ListN.{length, getD, length-map}
+use lib.Dec.{eqb, ltb}
+use borrow.Author.Tests.{not-true, not-false, lt-ltb, le-ltb, ne-eqb, eq-eqb, eqb-true, eqb-false}
+use Rattle.grid.specs.Grid.{holds, Puts}
+use Rattle.grid.specs.Laws.{put-other-row}
+use Rattle.json.specs.Tree.{Json, Items}
+use Rattle.json.specs.Table.{Sub}
+use Rattle.json.specs.Laws.{Left, Past, past, over, ended}
+use Rattle.model.specs.Model.{numberOf}
+use Rattle.nodes.specs.Access.{isStringValue, isArrayValue, textOf, nameOf, listed, elements, Member, firstNamed}
+use Rattle.nodes.specs.Everywhere.{among}
+use Rattle.nodes.specs.Faults.{least}
+use Rattle.nodes.specs.Laws.{elements-begin, no-elements, least-++}
+use Rattle.nodes.specs.Parts.{textAt}
+use Rattle.nodes.specs.Says.{Node, Finds, Gives}
+use Rattle.nodes.specs.declared.Found.{Found}
+use Rattle.nodes.specs.declared.Found.the-variants.{At, Nothing}
+use Rattle.shapes.specs.Checks.{unless, isSome}
+use Rattle.shapes.specs.Laws.{unless-true}
+use Rattle.fields.specs.Laws.{at-node, of-none, of-some}
+use Rattle.ids.specs.Says.{Offsets, Objects, Numbers, namesOf}
+use Rattle.ids.proofs.Rules.{string-text}
+use Rattle.links.specs.Links.{elementsIn, idsAmong}
+use Rattle.links.specs.Passes.{absentAt, absent, marks}
+use Rattle.links.specs.Says.{seen, Row, Beside, MarkGives, MarksGive}
+use Rattle.links.proofs.Marks.{among-marks, some-number}
+
+-- ---- the row
+
+module _ {names : List (List ℕ)} {g : List ℕ} {row : ℕ} {u : List ℕ} {earlier : List (List ℕ)} (r : Row names g row earlier) where
+  -- an ID that names no object
+  row-absent : length names ≤ numberOf names u → Row names g row (u ∷ earlier)
+  unfolding marks
+  row-absent h = record { is = λ n l. rw (ne-eqb (numberOf names u) n (λ e. omega arith)) (r .is n l) }
+
+  -- one whose object is there already
+  row-again : holds g row (numberOf names u) ≡ true → Row names g row (u ∷ earlier)
+  unfolding marks
+  row-again h = record { is = λ n l. of n l (eqb (numberOf names u) n) refl }
+    where
+      of : (n : ℕ) → n < length names → (b : Bool) → eqb (numberOf names u) n ≡ b → holds g row n ≡ (b || marks names earlier n)
+      of n l true e = ap (holds g row) (sym (eqb-true (numberOf names u) n e)) ∙ h
+      of n l false e = r .is n l
+
+  -- one whose object is put in
+  row-new : {g′ : List ℕ} {other : ℕ} → other ≡ numberOf names u → Puts g g′ row other → row * 128 + 128 ≤ length g → length names ≤ 1024 → Row names g′ row (u ∷ earlier)
+  unfolding marks
+  row-new {g′} {other} q p h f = record { is = λ n l. p .has row n h (omega arith) ∙ rw (eq-eqb row row refl, q) (of n l (eqb n (numberOf names u)) refl) }
+    where
+      of : (n : ℕ) → n < length names → (b : Bool) → eqb n (numberOf names u) ≡ b → (b || holds g row n) ≡ (eqb (numberOf names u) n || marks names earlier n)
+      of n l true e = rw (eq-eqb (numberOf names u) n (sym (eqb-true n (numberOf names u) e)))
+      of n l false e = rw (ne-eqb (numberOf names u) n (λ z. eqb-false n (numberOf names u) e (sym z))) (r .is n l)
+
+pub beside-same : (g : List ℕ) (row : ℕ) → Beside g g row
+beside-same g row = record { room = refl; others = λ a b r c n. refl }
+
+beside-put : {g g′ : List ℕ} {row column : ℕ} → Puts g g′ row column → Beside g g′ row
+beside-put p = record { room = p .room; others = λ a b r c n. put-other-row p a b r c n }
+
+beside-then : {g g′ g″ : List ℕ} {row : ℕ} → Beside g g′ row → Beside g′ g″ row → Beside g g″ row
+beside-then p q = record { room = q .room ∙ p .room; others = λ a b r c n. q .others a b (rw (p .room) r) c n ∙ p .others a b r c n }
+
+-- ---- one value
+
+ids-string : (v : Json) {u : List ℕ} → isStringValue v ≡ true → textOf v ≡ u → (earlier : List (List ℕ)) → idsAmong (v ∷ []) ++ earlier ≡ u ∷ earlier
+unfolding idsAmong
+ids-string v z q earlier = rw (z, q)
+
+ids-other : (v : Json) → isStringValue v ≡ false → (earlier : List (List ℕ)) → idsAmong (v ∷ []) ++ earlier ≡ earlier
+unfolding idsAmong
+ids-other v z earlier = rw z
+
+absent-by : (b : ℕ) (ms : List Member) (earlier : List (List ℕ)) (v : Json) (u : List ℕ) (kept : Bool) → isStringValue v ≡ true → textOf v ≡ u → kept ≡ (isSome (firstNamed u ms) && not (among earlier u)) → least b (unless kept 15 v) ≡ least b (absentAt ms earlier v)
+unfolding absentAt
+absent-by b ms earlier v u kept z q k = rw (z, q, ← k)
+
+-- as many IDs as objects
+pub count-names : {x t offsets : List ℕ} {count : ℕ} {ms : List Member} → Offsets x t ms offsets count → length (namesOf ms) ≡ count
+unfolding namesOf
+count-names {ms = ms} o = length-map ms nameOf ∙ sym (o .all)
+
+-- the object of the string at the node k is there if its number is below the count
+pub named : {x t offsets : List ℕ} {count k other : ℕ} {ms : List Member} → Numbers x t offsets count k other → Offsets x t ms offsets count → isSome (firstNamed (textAt x t k) ms) ≡ ltb other count
+unfolding namesOf
+named {x} {t} {k = k} {ms = ms} d o = rw (d .is ms o, o .all) (some-number ms (textAt x t k))
+
+-- a string, by its node
+pub string-at-node : {x t : List ℕ} {k : ℕ} {b : Bool} {v : Json} → Gives isStringValue x t k b → not b ≡ false → Sub x t k v → (isStringValue v ≡ true) × (textOf v ≡ textAt x t k)
+string-at-node {b = b} {v = v} s h w = let z : isStringValue v ≡ true = sym (s .is v w) ∙ not-false b h in (z, string-text w z)
+
+module _ {x t offsets : List ℕ} {count row k : ℕ} {b : Bool} {g : List ℕ} (s : Gives isStringValue x t k b) where
+  pub mark-other : (best : ℕ) → not b ≡ true → MarkGives x t offsets count row k g g best best
+  unfolding absentAt least
+  mark-other best h = record { beside = beside-same g row; is = λ ms o earlier r v w. let z : isStringValue v ≡ false = sym (s .is v w) ∙ not-true b h in (rw z, rw (ids-other v z earlier) r) }
+
+  module _ {other : ℕ} (h : not b ≡ false) (d : Numbers x t offsets count k other) where
+    -- the value is a string with a number, and rule 15 is kept or not
+    by : {best r : ℕ} {g′ : List ℕ} (kept : Bool) → Gives (λ v. least best (unless kept 15 v)) x t k r → Beside g g′ row
+        → ((ms : List Member) → Offsets x t ms offsets count → (earlier : List (List ℕ)) → Row (namesOf ms) g row earlier → (kept ≡ (isSome (firstNamed (textAt x t k) ms) && not (among earlier (textAt x t k)))) × (Row (namesOf ms) g′ row (textAt x t k ∷ earlier)))
+        → MarkGives x t offsets count row k g g′ best r
+    by {best} {g′ = g′} kept e c f = record {
+      beside = c;
+      is = λ ms o earlier r v w.
+          let (z, q) = string-at-node s h w in
+          let (a, m) = f ms o earlier r in
+          (e .is v w ∙ absent-by best ms earlier v (textAt x t k) kept z q a, rw (ids-string v z q earlier) m);
+    }
+
+    -- no object has the ID
+    pub mark-absent : {best r : ℕ} → count ≤ other → Gives (λ v. least best (unless false 15 v)) x t k r → MarkGives x t offsets count row k g g best r
+    mark-absent l e = by false e (beside-same g row) (λ ms o earlier r. (rw (named d o, le-ltb other count l), row-absent r (omega (arith, count-names o, d .is ms o))))
+
+    module _ (l : other < count) {f : Bool} (i : f ≡ holds g row other) where
+      earlier-is : {ms : List Member} {earlier : List (List ℕ)} → Offsets x t ms offsets count → Row (namesOf ms) g row earlier → among earlier (textAt x t k) ≡ f
+      earlier-is {ms} {earlier} o r =
+          among-marks (namesOf ms) earlier (textAt x t k) (omega (arith, count-names o, d .is ms o))
+          ∙ (sym (r .is (numberOf (namesOf ms) (textAt x t k)) (omega (arith, count-names o, d .is ms o))) ∙ (ap (holds g row) (sym (d .is ms o)) ∙ sym i))
+
+      -- it was listed before
+      pub mark-again : {best r : ℕ} → f ≡ true → Gives (λ v. least best (unless false 15 v)) x t k r → MarkGives x t offsets count row k g g best r
+      mark-again q e = by false e (beside-same g row) (λ ms o earlier r. (rw (named d o, lt-ltb other count l, earlier-is o r, q), row-again r (ap (holds g row) (sym (d .is ms o)) ∙ (sym i ∙ q))))
+
+      -- it was not, and is put in
+      pub mark-new : (best : ℕ) {g′ : List ℕ} → f ≡ false → Puts g g′ row other → row * 128 + 128 ≤ length g → Objects x t offsets count → MarkGives x t offsets count row k g g′ best best
+      mark-new best q p m a = by true (record { is = λ v w. unless-true best 15 v refl }) (beside-put p) (λ ms o earlier r. (rw (named d o, lt-ltb other count l, earlier-is o r, q), row-new r (d .is ms o) p m (omega (arith, count-names o, o .few))))
+
+-- ---- a list
+
+absent-cons : (b : ℕ) (ms : List Member) (earlier : List (List ℕ)) (v : Json) (vs : List Json) → least b (absent ms earlier (v ∷ vs)) ≡ least (least b (absentAt ms earlier v)) (absent ms (idsAmong (v ∷ []) ++ earlier) vs)
+unfolding absent
+absent-cons b ms earlier v vs = least-++ b (absentAt ms earlier v) (absent ms (idsAmong (v ∷ []) ++ earlier) vs)
+
+-- after the IDs `earlier` the row is right, and the faults and the IDs of `all` are those of what is left
+record Rest (ms : List Member) (row best acc : ℕ) (g : List ℕ) (all left : List Json) : Type 0 where
+  earlier : List (List ℕ)
+  right : Row (namesOf ms) g row earlier
+  faults : least acc (absent ms earlier left) ≡ least best (absent ms [] all)
+  ids : seen earlier left ≡ seen [] all
+
+record Rests (x t offsets : List ℕ) (count row best acc : ℕ) (g₀ g : List ℕ) (all left : List Json) : Type 0 where
+  of : (ms : List Member) → Offsets x t ms offsets count → Row (namesOf ms) g₀ row [] → Rest ms row best acc g all left
+
+-- what the loop over the values of the list at the node i knows where it has come to the node k, with the least fault acc and the set g
+pub record Marking (x t offsets : List ℕ) (count row i best n k acc : ℕ) (g₀ g : List ℕ) : Type 0 where
+  pub node : Node x t i
+  pub beside : Beside g₀ g row
+  left : (v : Json) → Sub x t i v → Left x t k n (λ vs. Rests x t offsets count row best acc g₀ g (elements v) (listed vs))
+
+module _ {x t offsets : List ℕ} {count row i : ℕ} {g₀ : List ℕ} where
+  pub marking-begin : (best : ℕ) {n : ℕ} {b : Bool} → Node x t i → Gives isArrayValue x t i b → not b ≡ false → n ≡ getD t (i + 2) 0 → Marking x t offsets count row i best n (i + 3) best g₀ g₀
+  marking-begin best {n} {b} d a h q =
+      record {
+        node = d;
+        beside = beside-same g₀ row;
+        left = λ v s. rw q (elements-begin (λ l. Rests x t offsets count row best best g₀ g₀ (elements v) l) s (sym (a .is v s) ∙ not-false b h) (record { of = λ ms o r. record { earlier = []; right = r; faults = refl; ids = refl } }));
+      }
+
+  module _ {best n k acc : ℕ} {g : List ℕ} (p : Marking x t offsets count row i best n k acc g₀ g) where
+    pub marking-room : row * 128 + 128 ≤ length g₀ → row * 128 + 128 ≤ length g
+    marking-room h = omega (arith, p .beside .room)
+
+    module _ (l : k < n) where
+      present : Past x t k n (λ vs. Rests x t offsets count row best acc g₀ g (elements (p .node .value)) (listed vs))
+      present = past (p .left (p .node .value) (p .node .stands)) l
+
+      pub marking-node : Node x t k
+      marking-node = let u = present in record { value = u .value; stands = u .stands; short = p .node .short }
+
+      pub marking-next : k + 2 < length t
+      marking-next = present .word .room
+
+      pub marking-less : {m : ℕ} → m ≡ getD t (k + 2) 0 → n - m < n - k
+      marking-less q = let u = present in omega (arith, u .more, u .within)
+
+      pub marking-turn : {m acc′ : ℕ} {g′ : List ℕ} → MarkGives x t offsets count row k g g′ acc acc′ → m ≡ getD t (k + 2) 0 → Marking x t offsets count row i best n m acc′ g₀ g′
+      unfolding listed seen
+      marking-turn {m} {acc′} {g′} e q = record { node = p .node; beside = beside-then (p .beside) (e .beside); left = λ v s. rw q (on v (past (p .left v s) l)) }
+        where
+          on : (v : Json) → Past x t k n (λ vs. Rests x t offsets count row best acc g₀ g (elements v) (listed vs)) → Left x t (getD t (k + 2) 0) n (λ vs. Rests x t offsets count row best acc′ g₀ g′ (elements v) (listed vs))
+          on v u =
+              over u (record {
+                of = λ ms o r₀.
+                    let r = u .holds .of ms o r₀ in
+                    let (a, c) = e .is ms o (r .earlier) (r .right) (u .value) (u .stands) in
+                    record {
+                      earlier = idsAmong (u .value ∷ []) ++ r .earlier;
+                      right = c;
+                      faults = rw a (sym (absent-cons acc ms (r .earlier) (u .value) (listed (u .others))) ∙ r .faults);
+                      ids = r .ids;
+                    };
+              })
+
+    pub marked : {found : Found} → found ≡ At i → n ≤ k → MarksGive x t offsets count row found g₀ g best acc
+    unfolding elementsIn listed absent seen least Finds
+    marked {found} q h = record {
+      beside = p .beside;
+      is = λ ms o r z f.
+          let (v, w, s) : Finds x t z (At i) = subst (Finds x t z) q f in
+          let e = ended (p .left v s) h .of ms o r in
+          let a : acc ≡ least best (absent ms [] (elements v)) = e .faults in
+          let c : e .earlier ≡ seen [] (elements v) = e .ids in
+          rw w (a, rw (← c) (e .right));
+    }
+
+  pub marked-other : (best : ℕ) {found : Found} {b : Bool} → found ≡ At i → Gives isArrayValue x t i b → not b ≡ true → MarksGive x t offsets count row found g₀ g₀ best best
+  unfolding elementsIn absent seen least Finds
+  marked-other best {found} {b} q a h = record {
+    beside = beside-same g₀ row;
+    is = λ ms o r z f. let (v, w, s) : Finds x t z (At i) = subst (Finds x t z) q f in rw (w, no-elements v (sym (a .is v s) ∙ not-true b h)) (refl, r);
+  }
+
+pub marked-nothing : {x t offsets : List ℕ} {count row best : ℕ} {g : List ℕ} {found : Found} → found ≡ Nothing → MarksGive x t offsets count row found g g best best
+unfolding elementsIn absent seen least Finds
+marked-nothing {x} {t} {row = row} {g = g} q = record {
+  beside = beside-same g row;
+  is = λ ms o r z f. let w : z ≡ none = subst (Finds x t z) q f in rw w (refl, r);
+}

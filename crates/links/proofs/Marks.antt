@@ -1,0 +1,92 @@
+-- An ID is among some others if its object is one of those that they name. Assumes nothing.
+use Prim.Native.Nat.{ℕ, zero, suc, _+_, _<_, _≤_}
+use native.Mathlib.Omega.{arith}
+use mathlib.Core.Path.{_≡_, refl, sym, ap, _∙_}
+use mathlib.Core.Bool.{Bool, true, false, cond, _||_}
+use mathlib.Core.List.{List, [], _∷_, map}
+use mathlib.Core.Option.{Option, some}
+use lib.ListN.{length, getD}
+use lib.Dec.{eqb, ltb}
+use borrow.Author.Tests.{eq-eqb, ne-eqb, lt-ltb, le-ltb, ltb-true, ltb-false}
+use Rattle.utf8.specs.Utf8.{same}
+use Rattle.utf8.specs.Laws.{same-equal, same-refl, never}
+use Rattle.model.specs.Model.{numberOf}
+use Rattle.nodes.specs.Access.{Member, nameOf, firstNamed}
+use Rattle.nodes.specs.Everywhere.{among}
+use Rattle.shapes.specs.Checks.{isSome}
+use Rattle.links.specs.Passes.{marks}
+
+-- `same` looks the same from either side
+same-turn : (u w : List ℕ) → same u w ≡ same w u
+same-turn u w = of (same u w) (same w u) refl refl
+  where
+    of : (a b : Bool) → same u w ≡ a → same w u ≡ b → a ≡ b
+    of true true p q = refl
+    of true false p q = absurd (never (same-refl u) (rw (← same-equal u w p) at q))
+    of false true p q = absurd (never (same-refl w) (rw (← same-equal w u q) at p))
+    of false false p q = refl
+
+-- a number below the count is that of the ID
+number-hit : (names : List (List ℕ)) (u : List ℕ) → numberOf names u < length names → getD names (numberOf names u) [] ≡ u
+unfolding numberOf
+number-hit [] u h = absurd (omega arith)
+number-hit (i ∷ names) u h = of (same i u) refl (number-hit names u) h
+  where
+    of : (b : Bool) → same i u ≡ b → (numberOf names u < length names → getD names (numberOf names u) [] ≡ u) → cond b 0 (suc (numberOf names u)) < length (i ∷ names) → getD (i ∷ names) (cond b 0 (suc (numberOf names u))) [] ≡ u
+    of true e r l = same-equal i u e
+    of false e r l = r (omega arith)
+
+-- an ID of the list has the number of its first place at most
+pub number-own : (names : List (List ℕ)) (k : ℕ) → k < length names → numberOf names (getD names k []) ≤ k
+unfolding numberOf
+number-own [] k h = absurd (omega arith)
+number-own (i ∷ names) zero h = rw (same-refl i) (omega arith)
+number-own (i ∷ names) (suc k) h = of (same i (getD names k [])) (number-own names k (omega arith))
+  where
+    of : (b : Bool) → numberOf names (getD names k []) ≤ k → cond b 0 (suc (numberOf names (getD names k []))) ≤ suc k
+    of true r = omega arith
+    of false r = omega arith
+
+-- two IDs are the same if they name the same object
+same-number : (names : List (List ℕ)) (u w : List ℕ) → numberOf names w < length names → same u w ≡ eqb (numberOf names u) (numberOf names w)
+same-number names u w h = of (same u w) refl
+  where
+    of : (b : Bool) → same u w ≡ b → b ≡ eqb (numberOf names u) (numberOf names w)
+    of true e = sym (eq-eqb (numberOf names u) (numberOf names w) (ap (numberOf names) (same-equal u w e)))
+    of false e = sym (ne-eqb (numberOf names u) (numberOf names w) (λ q.
+        let k : getD names (numberOf names u) [] ≡ u = number-hit names u (rw q h) in
+        let z : w ≡ u = sym (number-hit names w h) ∙ (ap (λ (n : ℕ). getD names n []) (sym q) ∙ k) in
+        never (same-refl u) (rw z at e)))
+
+pub among-marks : (names us : List (List ℕ)) (w : List ℕ) → numberOf names w < length names → among us w ≡ marks names us (numberOf names w)
+unfolding among marks
+among-marks names [] w h = refl
+among-marks names (v ∷ us) w h = rw (same-number names v w h, among-marks names us w h)
+
+ltb-suc : (a b : ℕ) → ltb (suc a) (suc b) ≡ ltb a b
+ltb-suc a b = of (ltb a b) refl
+  where
+    of : (c : Bool) → ltb a b ≡ c → ltb (suc a) (suc b) ≡ c
+    of true e = let l : a < b = ltb-true a b e in lt-ltb (suc a) (suc b) (omega arith)
+    of false e = let l : b ≤ a = ltb-false a b e in le-ltb (suc a) (suc b) (omega arith)
+
+-- the object of an ID is there if its number is below the count
+pub some-number : (ms : List Member) (u : List ℕ) → isSome (firstNamed u ms) ≡ ltb (numberOf (map nameOf ms) u) (length ms)
+unfolding isSome firstNamed numberOf
+some-number [] u = refl
+some-number (m ∷ ms) u = rw (same-turn u (nameOf m)) (of (same (nameOf m) u) (some-number ms u))
+  where
+    of : (b : Bool) → isSome (firstNamed u ms) ≡ ltb (numberOf (map nameOf ms) u) (length ms) → isSome (cond b (some (m .1)) (firstNamed u ms)) ≡ ltb (cond b 0 (suc (numberOf (map nameOf ms) u))) (suc (length ms))
+    of true r = sym (lt-ltb 0 (suc (length ms)) (omega arith))
+    of false r = r ∙ sym (ltb-suc (numberOf (map nameOf ms) u) (length ms))
+
+-- and it is the one of that number
+pub named-number : (ms : List Member) (d : Member) (u : List ℕ) → numberOf (map nameOf ms) u < length ms → firstNamed u ms ≡ some (getD ms (numberOf (map nameOf ms) u) d .1)
+unfolding firstNamed numberOf
+named-number [] d u h = absurd (omega arith)
+named-number (m ∷ ms) d u h = rw (same-turn u (nameOf m)) (of (same (nameOf m) u) (named-number ms d u) h)
+  where
+    of : (b : Bool) → (numberOf (map nameOf ms) u < length ms → firstNamed u ms ≡ some (getD ms (numberOf (map nameOf ms) u) d .1)) → cond b 0 (suc (numberOf (map nameOf ms) u)) < length (m ∷ ms)
+        → cond b (some (m .1)) (firstNamed u ms) ≡ some (getD (m ∷ ms) (cond b 0 (suc (numberOf (map nameOf ms) u))) d .1)
+    of true r l = refl
+    of false r l = r (omega arith)

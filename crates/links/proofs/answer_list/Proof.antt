@@ -1,0 +1,36 @@
+-- `links::answer_list` meets its contract. Assumes nothing.
+use Prim.Native.Nat.{_-_}
+use Rattle.links.proofs.Answering.{Answering, answering-next}
+use Rattle.links.proofs.Rules.{answering}
+use Rattle.links.proofs.answer_list.Statement.{statement}
+use Rattle.links.proofs.answer_list.Tie as tie
+
+abbrev Inv-loop : tie.InvT-loop
+Inv-loop text table offsets count heads nexts set own excused best i n least₀ k₀ least k = Answering text table offsets count own i best n k least set
+
+abbrev μ-loop : tie.MeasureT-loop
+μ-loop text table offsets count heads nexts set own excused best i n least₀ k₀ least k = n - k
+
+next-requires-2 : tie.Need-next-requires-2 Inv-loop μ-loop
+next-requires-2 c κs = answering-next (c .before .before .loop .inv) (c .before .loop-test .taken)
+
+pub answer-list-spec : {M : Type 1} → statement M
+answer-list-spec =
+    tie.close
+    (tie.spec
+    Inv-loop
+    μ-loop
+    (λ c. search answering)
+    (λ c. search answering)
+    (λ c. search answering)
+    (λ c. search answering)
+    (λ c κs. search answering)
+    (λ c. search answering)
+    (λ c κs. search answering)
+    (λ c. search answering)
+    (λ c. search answering)
+    (λ c κs. search answering)
+    next-requires-2
+    (λ c. search answering)
+    (λ c. search answering)
+    (λ c. search answering))

@@ -1,0 +1,12 @@
+-- `links::links_many` meets its contract. Assumes nothing.
+use mathlib.Core.Path.{refl}
+use native.Mathlib.Omega.{arith}
+use Rattle.links.proofs.Rules.{sweeping, emptied}
+use Rattle.links.proofs.links_many.Statement.{statement}
+use Rattle.links.proofs.links_many.Tie as tie
+
+links-with-requires : tie.Need-links-with-requires
+links-with-requires c κs = (c .before .before .before .before .pre, emptied 131072 refl (omega (arith, c .before .before .before .before .pre .stand .few)), emptied 131072 refl (omega (arith, c .before .before .before .before .pre .stand .few)))
+
+pub links-many-spec : {M : Type 1} → statement M
+links-many-spec = tie.close (tie.spec (λ c. search sweeping) (λ c. search sweeping) links-with-requires (λ c. search sweeping))

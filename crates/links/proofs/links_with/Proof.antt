@@ -1,0 +1,30 @@
+-- `links::links_with` meets its contract. Assumes nothing.
+use mathlib.Core.Path.{refl}
+use Rattle.ids.proofs.Rules.{fresh-zero, fresh-length}
+use Rattle.links.proofs.Rules.{sweeping, numbered}
+use Rattle.links.proofs.Sweeps.{filled-all, all-given}
+use Rattle.links.proofs.links_with.Statement.{statement}
+use Rattle.links.proofs.links_with.Tie as tie
+
+fill-requires : tie.Need-fill-requires
+fill-requires c κs = (c .before .before .before .before .before .before .pre .0, fresh-length 4096 refl, fresh-length 1024 refl, fresh-zero 4096 refl)
+
+mark-all-requires : tie.Need-mark-all-requires
+mark-all-requires c κs = (numbered (c .before .before .before .before .before .before .before .before .before .before .before .pre .0) (c .before .before .before .before .fill .ensures), c .before .before .before .before .before .before .before .before .before .before .before .pre .1 .room, c .before .before .before .before .before .before .before .before .before .before .before .pre .2 .room)
+
+answer-all-requires : tie.Need-answer-all-requires
+answer-all-requires c κs = (numbered (c .before .before .before .before .before .before .before .before .before .before .before .before .before .before .before .before .before .before .before .before .pre .0) (c .before .before .before .before .before .before .before .before .before .before .before .before .before .fill .ensures), filled-all (c .before .before .before .before .before .before .before .before .before .before .before .before .before .before .before .before .before .before .before .before .pre .1) (c .before .before .before .before .before .before .before .before .before .before .before .before .before .before .before .before .before .before .before .before .pre .2) (c .before .before .before .before .before .before .before .before .mark-all .ensures))
+
+returns : tie.Need-returns
+returns c = all-given (c .before .before .before .before .before .before .before .before .before .before .before .before .before .before .before .before .before .before .before .before .before .pre .1) (c .before .before .before .before .before .before .before .before .before .before .before .before .before .before .before .before .before .before .before .before .before .pre .2) (c .before .before .before .before .before .before .before .before .before .mark-all .ensures) (c .answer-all .ensures)
+
+pub links-with-spec : {M : Type 1} → statement M
+links-with-spec =
+    tie.close
+    (tie.spec
+    fill-requires
+    mark-all-requires
+    answer-all-requires
+    (λ c. search sweeping)
+    (λ c. search sweeping)
+    returns)

@@ -1,0 +1,21 @@
+-- `links::mark` meets its contract. Assumes nothing.
+use Rattle.links.proofs.Rules.{marking}
+use Rattle.links.proofs.mark.Statement.{statement}
+use Rattle.links.proofs.mark.Tie as tie
+
+pub mark-spec : {M : Type 1} → statement M
+mark-spec =
+    tie.close
+    (tie.spec
+    (λ c κs. search marking)
+    (λ c. search marking)
+    (λ c κs. search marking)
+    (λ c κs. search marking)
+    (λ c. search marking)
+    (λ c κs. search marking)
+    (λ c κs. search marking)
+    (λ c. search marking)
+    (λ c. search marking)
+    (λ c κs. search marking)
+    (λ c. search marking)
+    (λ c. search marking))

@@ -1,0 +1,36 @@
+-- `links::mark_list` meets its contract. Assumes nothing.
+use Prim.Native.Nat.{_-_}
+use Rattle.links.proofs.Marking.{Marking, marking-next}
+use Rattle.links.proofs.Rules.{marking}
+use Rattle.links.proofs.mark_list.Statement.{statement}
+use Rattle.links.proofs.mark_list.Tie as tie
+
+abbrev Inv-loop : tie.InvT-loop
+Inv-loop text table offsets count heads nexts set₀ row best i n least₀ k₀ set least k = Marking text table offsets count row i best n k least set₀ set
+
+abbrev μ-loop : tie.MeasureT-loop
+μ-loop text table offsets count heads nexts set₀ row best i n least₀ k₀ set least k = n - k
+
+next-requires-2 : tie.Need-next-requires-2 Inv-loop μ-loop
+next-requires-2 c κs = marking-next (c .before .before .before .before .before .loop .inv) (c .before .before .before .before .loop-test .taken)
+
+pub mark-list-spec : {M : Type 1} → statement M
+mark-list-spec =
+    tie.close
+    (tie.spec
+    Inv-loop
+    μ-loop
+    (λ c. search marking)
+    (λ c. search marking)
+    (λ c. search marking)
+    (λ c κs. search marking)
+    (λ c. search marking)
+    (λ c κs. search marking)
+    (λ c. search marking)
+    (λ c. search marking)
+    (λ c κs. search marking)
+    next-requires-2
+    (λ c. search marking)
+    (λ c. search marking)
+    (λ c. search marking)
+    (λ c. search marking))

@@ -1,0 +1,49 @@
+-- `links::mark_object` meets its contract. Assumes nothing.
+use mathlib.Core.Path.{refl}
+use native.Mathlib.Omega.{arith}
+use Rattle.utf8.specs.Ascii.{ascii}
+use Rattle.shapes.specs.Laws.{seeks-find}
+use Rattle.ids.proofs.Rules.{object-onward}
+use Rattle.links.proofs.Rules.{sweeping, sought-in, object-at, row-within}
+use Rattle.links.proofs.Sweeps.{object-marks}
+use Rattle.links.proofs.mark_object.Statement.{statement}
+use Rattle.links.proofs.mark_object.Tie as tie
+
+mul-own : tie.Need-mul-own
+mul-own c = omega (arith, c .before .before .before .before .pre .0 .objects .stand .few)
+
+add-i : tie.Need-add-i
+add-i c = omega (arith, object-onward (c .before .before .before .before .before .pre .0 .objects) (c .before .before .before .before .before .pre .1))
+
+member-requires : tie.Need-member-requires
+member-requires c κs = object-at (c .before .before .before .before .before .before .pre .0) (c .before .before .before .before .before .before .pre .1)
+
+member-requires-2 : tie.Need-member-requires-2
+member-requires-2 c κs = object-at (c .before .before .before .before .before .before .before .before .pre .0) (c .before .before .before .before .before .before .before .before .pre .1)
+
+mark-list-requires : tie.Need-mark-list-requires
+mark-list-requires c κs = (c .before .before .before .before .before .before .before .before .before .before .pre .0, sought-in (c .before .before .before .member .ensures) (object-at (c .before .before .before .before .before .before .before .before .before .before .pre .0) (c .before .before .before .before .before .before .before .before .before .before .pre .1)), row-within (c .before .before .before .before .before .before .before .before .before .before .pre .1) (c .before .before .before .before .before .before .before .before .before .before .pre .2))
+
+mark-list-requires-2 : tie.Need-mark-list-requires-2
+mark-list-requires-2 c κs = (c .before .before .before .before .before .before .before .before .before .before .before .before .before .before .pre .0, sought-in (c .before .before .before .before .before .member2 .ensures) (object-at (c .before .before .before .before .before .before .before .before .before .before .before .before .before .before .pre .0) (c .before .before .before .before .before .before .before .before .before .before .before .before .before .before .pre .1)), row-within (c .before .before .before .before .before .before .before .before .before .before .before .before .before .before .pre .1) (c .before .before .before .before .before .before .before .before .before .before .before .before .before .before .pre .3))
+
+returns : tie.Need-returns
+unfolding ascii
+returns c = object-marks (seeks-find "children" refl (c .before .before .before .before .before .before .before .before .before .before .member .ensures)) (seeks-find "parents" refl (c .before .before .before .before .before .before .before .before .member2 .ensures)) (c .before .before .before .before .before .before .mark-list .ensures) (c .before .before .mark-list2 .ensures) (c .before .before .before .before .before .before .before .before .before .before .before .before .before .before .before .before .before .pre .1) (c .before .before .before .before .before .before .before .before .before .before .before .before .before .before .before .before .before .pre .2) (c .before .before .before .before .before .before .before .before .before .before .before .before .before .before .before .before .before .pre .3)
+
+pub mark-object-spec : {M : Type 1} → statement M
+mark-object-spec =
+    tie.close
+    (tie.spec
+    mul-own
+    (λ c. search sweeping)
+    add-i
+    (λ c. search sweeping)
+    member-requires
+    (λ c. search sweeping)
+    member-requires-2
+    mark-list-requires
+    mark-list-requires-2
+    (λ c. search sweeping)
+    (λ c. search sweeping)
+    returns)
