@@ -2,12 +2,12 @@
 -- numeral read one byte at a time. Assumes nothing: these are definitions.
 use Prim.Native.Nat.{ℕ, zero, suc, _+_, _-_, _*_, _^_, _≤_, _<_, min}
 use mathlib.Core.Path.{_≡_}
-use mathlib.Core.Bool.{Bool, false, cond, _||_}
+use mathlib.Core.Bool.{Bool, true, false, cond, _&&_, _||_}
 use mathlib.Core.Option.{Option, none, some}
 use mathlib.Core.List.{List, [], _∷_}
 use lib.Seq.{slice}
 use lib.IntN.{ℤ, pos, natAbs, _+ℤ_, _-ℤ_}
-use Rattle.numerals.specs.Numerals.{Decimal, isDigit, isPoint, isLetter, digits, natural, negative, signed, mantissa, after}
+use Rattle.numerals.specs.Numerals.{Decimal, isDigit, isPoint, isLetter, isInteger, integer, fits32, digits, natural, negative, signed, mantissa, after}
 use Rattle.numerals.specs.declared.Numeral.{Numeral}
 use Rattle.numerals.specs.declared.Numeral.the-variants.{Pair, Out}
 use Rattle.numerals.specs.declared.Whole.{Whole}
@@ -31,6 +31,21 @@ saturated raw = min (natural 0 (digits raw)) (2 ^ 64 - 1)
 pub record IsWhole (raw : List ℕ) (w : Whole) : Type 0 where
   pub sign : w .negative ≡ negative raw
   pub size : w .magnitude ≡ saturated raw
+
+-- no byte but digits
+unfoldable pub allDigits : List ℕ → Bool
+allDigits [] = true
+allDigits (b ∷ s) = isDigit b && allDigits s
+
+-- r is the value of an integer, unless it is 2^64 - 1
+pub record Quick (raw : List ℕ) (r : ℕ) : Type 0 where
+  pub whole : r < 2 ^ 64 - 1 → isInteger raw ≡ true
+  pub value : r < 2 ^ 64 - 1 → integer raw ≡ pos r
+
+-- if r is true, the bytes are an integer that lies within 32 signed bits
+pub record Short (raw : List ℕ) (r : Bool) : Type 0 where
+  pub whole : r ≡ true → isInteger raw ≡ true
+  pub fits : r ≡ true → fits32 (integer raw) ≡ true
 
 -- the digits read so far and one more: as `more` of `Numerals`, and counted if the point was read
 unfoldable pub digit : Sum → ℕ → Sum

@@ -7,7 +7,7 @@ ghost use lib.ListN.{length};
 ghost use lib.Seq.{slice};
 ghost use lib.IntN.{subℕ};
 ghost use Rattle.numerals.specs.Numerals as spec;
-ghost use Rattle.numerals.specs.Reading.{pairIn, saturated, IsWhole, taken, capped, Room, Reads, Reaches, powerOf};
+ghost use Rattle.numerals.specs.Reading.{pairIn, saturated, IsWhole, allDigits, Quick, Short, taken, capped, Room, Reads, Reaches, powerOf};
 
 // The pair of a numeral, or that it has none in range.
 pub enum Numeral {
@@ -163,6 +163,62 @@ pub fn is_below(text: &[u8], at: usize, end: usize, count: usize) -> bool
         return 0 < limit;
     }
     n < limit
+}
+
+// The number that at most nine digits write; 2^64 - 1 for other bytes.
+pub fn quick(text: &[u8], at: usize, end: usize) -> u64
+    requires { ⌜ (at ≤ end) × (end ≤ length (now text)) ⌝ }
+    ensures { λ r. ⌜ Quick (slice at end (now (text .entry))) r ⌝ }
+{
+    let size = end - at;
+    if size > 9 {
+        return 0xffff_ffff_ffff_ffff;
+    }
+    let mut n: u64 = 0;
+    let mut i = at;
+    while i < end {
+        let b = text[i];
+        if !is_digit(b) {
+            return 0xffff_ffff_ffff_ffff;
+        }
+        n = n * 10 + value(b);
+        i += 1;
+    }
+    n
+}
+
+// Are all bytes digits?
+fn all_digits(text: &[u8], at: usize, end: usize) -> bool
+    requires { ⌜ (at ≤ end) × (end ≤ length (now text)) ⌝ }
+    ensures { λ r. ⌜ r ≡ allDigits (slice at end (now (text .entry))) ⌝ }
+{
+    let mut i = at;
+    while i < end {
+        let b = text[i];
+        if !is_digit(b) {
+            return false;
+        }
+        i += 1;
+    }
+    true
+}
+
+// Is it a numeral of at most nine bytes with no fraction and no exponent? Then it is an integer that lies within 32 signed bits.
+pub fn is_short(text: &[u8], at: usize, end: usize) -> bool
+    requires { ⌜ (at ≤ end) × (end ≤ length (now text)) ⌝ }
+    ensures { λ r. ⌜ Short (slice at end (now (text .entry))) r ⌝ }
+{
+    if end - at > 9 {
+        return false;
+    }
+    if at == end {
+        return false;
+    }
+    let b = text[at];
+    if b == b'-' {
+        return all_digits(text, at + 1, end);
+    }
+    all_digits(text, at, end)
 }
 
 // A number with a sign.
