@@ -266,12 +266,11 @@ module _ {x t : List ℕ} {k : ℕ} (best vertices code : ℕ) {m : ℕ} (a : Gi
   pub boundary-none : code ≡ 0 → Gives (λ v. least best (boundaries vertices code v)) x t k m
   boundary-none e = gives-same best isArray (boundaries vertices code) (λ v s. sym (append-nil (isArray v)) ∙ bound-lists vertices code v true (ap (λ (n : ℕ). eqb n 0) e)) a
 
-  pub boundary-is : {p q l r : ℕ} → (code ≡ 0 → ⊥) → p ≡ depth code → Gives (λ v. least m (shaped p v)) x t k l → q ≡ depth code → Gives (λ v. least l (near vertices q v)) x t k r → Gives (λ v. least best (boundaries vertices code v)) x t k r
-  boundary-is {l = l} h p s q n =
+  pub boundary-is : {p r : ℕ} → (code ≡ 0 → ⊥) → p ≡ depth code → Gives (λ v. least m (shaped p v ++ near vertices p v)) x t k r → Gives (λ v. least best (boundaries vertices code v)) x t k r
+  boundary-is h p s =
       record {
         is = λ v z.
-            step best m (isArray v) (shaped (depth code) v ++ near vertices (depth code) v) (a .is v z)
-            (step m l (shaped (depth code) v) (near vertices (depth code) v) (s .is v z ∙ ap (λ (d : ℕ). least m (shaped d v)) p) (n .is v z ∙ ap (λ (d : ℕ). least l (near vertices d v)) q))
+            step best m (isArray v) (shaped (depth code) v ++ near vertices (depth code) v) (a .is v z) (s .is v z ∙ ap (λ (d : ℕ). least m (shaped d v ++ near vertices d v)) p)
             ∙ ap (least best) (bound-lists vertices code v false (ne-eqb code 0 h));
       }
 

@@ -267,8 +267,7 @@ fn boundary(
     if code == 0 {
         return kind;
     }
-    let shape = shapes::shaped(text, table, k, words::depth_of(code), kind);
-    shapes::near(text, table, k, words::depth_of(code), vertices, shape)
+    shapes::boundary(text, table, k, words::depth_of(code), vertices, kind)
 }
 
 // Rule 8 of `lod`, which a geometry needs unless its type is `GeometryInstance`.

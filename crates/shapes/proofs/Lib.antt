@@ -1,4 +1,5 @@
 -- What the proofs of several functions use.
 mod Rules
 mod Parts
+mod Outline
 mod Both

@@ -43,12 +43,12 @@ triple-of v e = go (isArrayValue v) (eqb (length (elements v)) 3) (allIntegers (
     go false false c e = e
 
 -- the checks of a depth above 0, by those of one less
-shaped-suc : (d : ℕ) → (d ≡ 0 → ⊥) → (v : Json) → shaped d v ≡ unless (isArrayValue v) 12 v ++ each (shaped (d - 1)) v
+pub shaped-suc : (d : ℕ) → (d ≡ 0 → ⊥) → (v : Json) → shaped d v ≡ unless (isArrayValue v) 12 v ++ each (shaped (d - 1)) v
 unfolding shaped each
 shaped-suc zero h v = absurd (h refl)
 shaped-suc (suc d) h v = let e : d ≡ suc d - 1 = omega arith in ap (λ (k : ℕ). unless (isArrayValue v) 12 v ++ each (shaped k) v) e
 
-near-suc : (count d : ℕ) → (d ≡ 0 → ⊥) → (v : Json) → near count d v ≡ each (near count (d - 1)) v
+pub near-suc : (count d : ℕ) → (d ≡ 0 → ⊥) → (v : Json) → near count d v ≡ each (near count (d - 1)) v
 unfolding near each
 near-suc count zero h v = absurd (h refl)
 near-suc count (suc d) h v = let e : d ≡ suc d - 1 = omega arith in ap (λ (k : ℕ). each (near count k) v) e

@@ -76,7 +76,7 @@ pub at-none : (name : String) (c : Check) (v : Json) → isObjectValue v ≡ fal
 unfolding at on find firstNamed
 at-none name c v e = ap (λ ms. on c (firstNamed (ascii name) ms)) (no-members v e)
 
-least-none : {b : ℕ} {xs : List ℕ} → xs ≡ [] → b ≡ least b xs
+pub least-none : {b : ℕ} {xs : List ℕ} → xs ≡ [] → b ≡ least b xs
 unfolding least
 least-none {b} e = sym (ap (least b) e)
 

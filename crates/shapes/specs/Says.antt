@@ -1,7 +1,7 @@
 -- What the checks over a node table ask and tell. Assumes nothing: these are definitions.
 use mathlib.Core.Path.{_≡_}
-use mathlib.Core.Bool.{not, _||_}
-use mathlib.Core.List.{List}
+use mathlib.Core.Bool.{Bool, true, not, _||_}
+use mathlib.Core.List.{List, []}
 use mathlib.Core.Option.{Option}
 use Prim.Native.Nat.{ℕ}
 use Rattle.json.specs.Tree.{Json}
@@ -10,7 +10,11 @@ use Rattle.nodes.specs.Access.{isObjectValue}
 use Rattle.nodes.specs.Faults.{least}
 use Rattle.nodes.specs.Says.{Node, Finds}
 use Rattle.nodes.specs.declared.Found.{Found}
-use Rattle.shapes.specs.Checks.{unless, isSome}
+use Rattle.shapes.specs.Checks.{Check, unless, isSome}
+
+-- if r is true, the check finds no fault in the value that stands at the node i
+pub record Clears (c : Check) (x t : List ℕ) (i : ℕ) (r : Bool) : Type 0 where
+  pub none : r ≡ true → (v : Json) → Sub x t i v → c v ≡ []
 
 -- values stand at two nodes
 pub record Nodes (x t : List ℕ) (i j : ℕ) : Type 0 where

@@ -10,7 +10,7 @@ ghost use Rattle.shapes.specs.Checks.{isObject, isString, isNumber, isAr
 ghost use Rattle.shapes.specs.Checks as checks;
 ghost use Rattle.shapes.specs.Shapes.{isIntegerValue, allIntegers, holdsThree, inPairRange, isTriple};
 ghost use Rattle.shapes.specs.Shapes as shape;
-ghost use Rattle.shapes.specs.Says.{Nodes, GivesTwo, Needs};
+ghost use Rattle.shapes.specs.Says.{Nodes, GivesTwo, Needs, Clears};
 use nodes::Found;
 use numerals::Numeral;
 
@@ -278,6 +278,52 @@ pub fn near(text: &[u8], table: &[u32], i: usize, depth: usize, count: usize, be
     let mut k = i + 3;
     while k < n {
         least = near(text, table, k, depth - 1, count, least);
+        k = nodes::next(table, k);
+    }
+    least
+}
+
+// Is the value a short integer below the count? Then it breaks neither rule 12 nor rule 13.
+fn is_near(text: &[u8], table: &[u32], i: usize, count: usize) -> bool
+    requires { ⌜ Node (now text) (now table) i ⌝ }
+    ensures { λ r. ⌜ Clears (λ v. shape.shaped 0 v ++ shape.near count 0 v) (now (text .entry)) (now (table .entry)) i r ⌝ }
+{
+    if !nodes::is_number(text, table, i) {
+        return false;
+    }
+    numerals::quick(text, nodes::start(table, i), nodes::end(table, i)) < count as u64
+}
+
+// Rules 12 and 13 of what stands at a boundary's last level: an integer, at least 0 and below the count.
+fn leaf(text: &[u8], table: &[u32], i: usize, count: usize, best: u32) -> u32
+    requires { ⌜ Node (now text) (now table) i ⌝ }
+    ensures { λ r. ⌜ Gives (λ v. least best (shape.shaped 0 v ++ shape.near count 0 v)) (now (text .entry)) (now (table .entry)) i r ⌝ }
+{
+    if is_near(text, table, i, count) {
+        return best;
+    }
+    if !is_integer(text, table, i) {
+        return unless(false, 12, text, table, i, best);
+    }
+    below(text, table, i, count, best)
+}
+
+// Rules 12 and 13 of a boundary: arrays down to the depth, where integers stand, each at least 0 and below the count.
+pub fn boundary(text: &[u8], table: &[u32], i: usize, depth: usize, count: usize, best: u32) -> u32
+    requires { ⌜ Node (now text) (now table) i ⌝ }
+    ensures { λ r. ⌜ Gives (λ v. least best (shape.shaped depth v ++ shape.near count depth v)) (now (text .entry)) (now (table .entry)) i r ⌝ }
+{
+    if depth == 0 {
+        return leaf(text, table, i, count, best);
+    }
+    if !nodes::is_array(text, table, i) {
+        return unless(false, 12, text, table, i, best);
+    }
+    let n = nodes::next(table, i);
+    let mut least = best;
+    let mut k = i + 3;
+    while k < n {
+        least = boundary(text, table, k, depth - 1, count, least);
         k = nodes::next(table, k);
     }
     least

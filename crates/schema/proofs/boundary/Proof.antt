@@ -11,7 +11,7 @@ returns-2 : tie.Need-returns-2
 returns-2 c = found-some _ (boundaries _ _) (c .before .before .before .found .given .1) (boundary-none _ _ _ (c .before .array .ensures) (c .if1 .taken))
 
 returns-3 : tie.Need-returns-3
-returns-3 c = found-some _ (boundaries _ _) (c .before .before .before .before .before .before .before .found .given .1) (boundary-is _ _ _ (c .before .before .before .before .before .array .ensures) (c .before .before .before .before .if1 .left) (c .before .before .before .depth-of .ensures) (c .before .before .shaped .ensures) (c .before .depth-of2 .ensures) (c .near .ensures))
+returns-3 c = found-some _ (boundaries _ _) (c .before .before .before .before .before .found .given .1) (boundary-is _ _ _ (c .before .before .before .array .ensures) (c .before .before .if1 .left) (c .before .depth-of .ensures) (c .boundary .ensures))
 
 pub boundary-spec : {M : Type 1} → statement M
-boundary-spec = tie.close (tie.spec (λ c. search geometric) (λ c. search geometric) returns (λ c κs. search geometric) returns-2 (λ c κs. search geometric) (λ c κs. search geometric) (λ c κs. search geometric) (λ c κs. search geometric) returns-3)
+boundary-spec = tie.close (tie.spec (λ c. search geometric) (λ c. search geometric) returns (λ c κs. search geometric) returns-2 (λ c κs. search geometric) (λ c κs. search geometric) returns-3)

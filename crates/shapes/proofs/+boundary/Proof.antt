@@ -1,0 +1,50 @@
+-- `shapes::boundary` meets its contract. The measure is the depth. Assumes nothing.
+use Prim.Native.Nat.{ℕ, _-_, _<_}
+use mathlib.Core.List.{_++_}
+use borrow.Fn.Kinds.{In}
+use borrow.Fn.PlainCycle.{Measures, is, falls, and}
+use Rattle.shapes.specs.Shapes as shape
+use Rattle.shapes.specs.Laws.{Pass, pass-done}
+use Rattle.shapes.proofs.Outline.{boundary-leaf, boundary-no, boundary-yes}
+use Rattle.shapes.proofs.Rules.{shapes}
+use Rattle.shapes.proofs.boundary.Reads as boundary
+use Rattle.shapes.proofs.boundary.Kinds as kinds
+use Rattle.shapes.proofs.+boundary.Lts-boundary as lts
+use Rattle.shapes.proofs.leaf.Reads as leaf-reads
+use Rattle.shapes.proofs.unless.Reads as unless-reads
+use Rattle.nodes.proofs.is_array.Reads as is-array-reads
+use Rattle.nodes.proofs.next.Reads as next-reads
+use Rattle.shapes.proofs.+boundary.{statement}
+use Rattle.shapes.proofs.+boundary.Tie.{close}
+
+abbrev μ : Measures 2 kinds.ps ℕ
+μ κs a = a .1 .1 .1 .0
+
+abbrev now-at : ℕ → In 2 kinds.ps
+now-at t = and 2 kinds.ps (is 2 kinds.ps μ t) boundary.Pre
+
+abbrev below : ℕ → In 2 kinds.ps
+below t = and 2 kinds.ps (falls 2 kinds.ps _<_ μ t) boundary.Pre
+
+-- what is known of the functions that it calls
+abbrev calls : ℕ → lts.Claims
+calls t = (leaf-reads.Asked, leaf-reads.Learnt, is-array-reads.Asked, is-array-reads.Learnt, unless-reads.Asked, unless-reads.Learnt, next-reads.Asked, next-reads.Learnt, below t, boundary.Post)
+
+abbrev Inv : lts.InvT-loop
+Inv text table i depth count best n least₀ k₀ least k = Pass (λ w. shape.shaped (depth - 1) w ++ shape.near count (depth - 1) w) text table i best n k least
+
+abbrev μ-loop : lts.MeasureT-loop
+μ-loop text table i depth count best n least₀ k₀ least k = n - k
+
+module _ (t : ℕ) where
+  returns : lts.Need-returns (calls t) (now-at t) boundary.Post Inv μ-loop
+  returns c = boundary-leaf _ _ _ (c .before .if1 .taken) (c .leaf .ensures)
+
+  returns-2 : lts.Need-returns-2 (calls t) (now-at t) boundary.Post Inv μ-loop
+  returns-2 c = boundary-no _ _ _ (c .before .before .before .if1 .left) (c .before .before .is-array .ensures) (c .before .if2 .taken) (c .unless .ensures)
+
+  returns-3 : lts.Need-returns-3 (calls t) (now-at t) boundary.Post Inv μ-loop
+  returns-3 c = boundary-yes _ _ _ (c .before .before .before .before .before .if1 .left) (c .before .before .before .before .is-array .ensures) (c .before .before .before .if2 .left) (pass-done (c .before .loop .inv) (c .loop-test .left))
+
+pub +boundary-spec : {M : Type 1} → statement M
++boundary-spec = close μ λ t. lts.spec (calls t) (now-at t) boundary.Post Inv μ-loop (λ c κs. search shapes) (returns t) (λ c κs. search shapes) (λ c κs. search shapes) (returns-2 t) (λ c κs. search shapes) (λ c. search shapes) (λ c. search shapes) (λ c. search shapes) (λ c κs. search shapes) (λ c κs. search shapes) (λ c. search shapes) (λ c. search shapes) (returns-3 t)

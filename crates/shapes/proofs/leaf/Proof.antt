@@ -1,0 +1,17 @@
+-- `shapes::leaf` meets its contract. Assumes nothing.
+use Rattle.shapes.proofs.Outline.{clears-best, leaf-no, leaf-yes}
+use Rattle.shapes.proofs.Rules.{shapes}
+use Rattle.shapes.proofs.leaf.Statement.{statement}
+use Rattle.shapes.proofs.leaf.Tie as tie
+
+returns : tie.Need-returns
+returns c = clears-best _ _ (c .before .is-near .ensures) (c .if1 .taken)
+
+returns-2 : tie.Need-returns-2
+returns-2 c = leaf-no _ _ (c .before .before .is-integer .ensures) (c .before .if2 .taken) (c .unless .ensures)
+
+returns-3 : tie.Need-returns-3
+returns-3 c = leaf-yes _ _ (c .before .before .is-integer .ensures) (c .before .if2 .left) (c .below .ensures)
+
+pub leaf-spec : {M : Type 1} → statement M
+leaf-spec = tie.close (tie.spec (λ c κs. search shapes) returns (λ c κs. search shapes) (λ c κs. search shapes) returns-2 (λ c κs. search shapes) returns-3)
