@@ -2,4 +2,5 @@
 mod Rules
 mod Parts
 mod Outline
+mod Triples
 mod Both

@@ -25,7 +25,7 @@ use Rattle.shapes.specs.Says.{Clears}
 use Rattle.shapes.specs.Laws.{least-none, gives-then, each-both, pass-none, kind-yes}
 use Rattle.shapes.proofs.Parts.{shaped-suc, near-suc, shaped-no, near-deep}
 
-clash : false ≡ true → ⊥
+pub clash : false ≡ true → ⊥
 clash e = let z : _≡_ {A = ℕ} 0 1 = cc in omega arith
 
 -- the two rules at the last level
@@ -37,7 +37,7 @@ near-last : (count : ℕ) (v : Json) → near count 0 v ≡ unless (not (isNumbe
 unfolding near numeral
 near-last count v = refl
 
-integer-of : (v : Json) → isNumberValue v ≡ true → isInteger (numeralOf v) ≡ true → isIntegerValue v ≡ true
+pub integer-of : (v : Json) → isNumberValue v ≡ true → isInteger (numeralOf v) ≡ true → isIntegerValue v ≡ true
 unfolding isIntegerValue
 integer-of v n w = rw n w
 

@@ -11,10 +11,16 @@ use Rattle.nodes.specs.Faults.{least}
 use Rattle.nodes.specs.Says.{Node, Finds}
 use Rattle.nodes.specs.declared.Found.{Found}
 use Rattle.shapes.specs.Checks.{Check, unless, isSome}
+use Rattle.shapes.specs.Shapes.{isIntegerValue, coordinate}
 
 -- if r is true, the check finds no fault in the value that stands at the node i
 pub record Clears (c : Check) (x t : List ℕ) (i : ℕ) (r : Bool) : Type 0 where
   pub none : r ≡ true → (v : Json) → Sub x t i v → c v ≡ []
+
+-- if r is true, the value that stands at the node i is an integer that fits 32 signed bits
+pub record IsSmall (x t : List ℕ) (i : ℕ) (r : Bool) : Type 0 where
+  pub whole : r ≡ true → (v : Json) → Sub x t i v → isIntegerValue v ≡ true
+  pub fits : r ≡ true → (v : Json) → Sub x t i v → coordinate v ≡ []
 
 -- values stand at two nodes
 pub record Nodes (x t : List ℕ) (i j : ℕ) : Type 0 where

@@ -10,7 +10,7 @@ ghost use Rattle.shapes.specs.Checks.{isObject, isString, isNumber, isAr
 ghost use Rattle.shapes.specs.Checks as checks;
 ghost use Rattle.shapes.specs.Shapes.{isIntegerValue, allIntegers, holdsThree, inPairRange, isTriple};
 ghost use Rattle.shapes.specs.Shapes as shape;
-ghost use Rattle.shapes.specs.Says.{Nodes, GivesTwo, Needs, Clears};
+ghost use Rattle.shapes.specs.Says.{Nodes, GivesTwo, Needs, Clears, IsSmall};
 use nodes::Found;
 use numerals::Numeral;
 
@@ -194,11 +194,45 @@ fn coordinates(text: &[u8], table: &[u32], i: usize, best: u32) -> u32
     least
 }
 
+// Is the value a short integer?
+fn is_small(text: &[u8], table: &[u32], i: usize) -> bool
+    requires { ⌜ Node (now text) (now table) i ⌝ }
+    ensures { λ r. ⌜ IsSmall (now (text .entry)) (now (table .entry)) i r ⌝ }
+{
+    if !nodes::is_number(text, table, i) {
+        return false;
+    }
+    numerals::is_short(text, nodes::start(table, i), nodes::end(table, i))
+}
+
+// Is the value an array of three short integers? Then no rule is broken there.
+fn is_plain_vertex(text: &[u8], table: &[u32], i: usize) -> bool
+    requires { ⌜ Node (now text) (now table) i ⌝ }
+    ensures { λ r. ⌜ Clears shape.vertex (now (text .entry)) (now (table .entry)) i r ⌝ }
+{
+    if !nodes::is_array(text, table, i) {
+        return false;
+    }
+    if nodes::next(table, i) != i + 12 {
+        return false;
+    }
+    if !is_small(text, table, i + 3) {
+        return false;
+    }
+    if !is_small(text, table, i + 6) {
+        return false;
+    }
+    is_small(text, table, i + 9)
+}
+
 // A vertex: an array of three integers (12) that fit 32 signed bits (13).
 fn vertex(text: &[u8], table: &[u32], i: usize, best: u32) -> u32
     requires { ⌜ Node (now text) (now table) i ⌝ }
     ensures { λ r. ⌜ Gives (λ v. least best (shape.vertex v)) (now (text .entry)) (now (table .entry)) i r ⌝ }
 {
+    if is_plain_vertex(text, table, i) {
+        return best;
+    }
     if !is_triple(text, table, i) {
         return unless(false, 12, text, table, i, best);
     }
