@@ -1,5 +1,5 @@
 -- Geometries, their boundaries and their semantics, from what the code's tests say. Assumes nothing.
-use Prim.Native.Nat.{ℕ, zero, suc, _+_, _-_, _*_, _^_, _<_, _≤_}
+use Prim.Native.Nat.{ℕ, zero, suc, _+_, _-_, _*_, _^_, _<_, _≤_, min}
 use Prim.Native.String.{String}
 use native.Mathlib.Omega.{arith}
 use mathlib.Core.Path.{_≡_, refl, sym, ap, _∙_, subst}
@@ -11,7 +11,7 @@ use lib.ListN.{length, getD}
 use lib.Dec.{eqb}
 use mir.Syntax.{w64}
 use mir.Val.{Fits}
-use borrow.Author.Tests.{not-true, not-false, ne-eqb}
+use borrow.Author.Tests.{not-true, not-false, ne-eqb, eqb-true, eqb-false}
 use Rattle.utf8.specs.Ascii.{ascii}
 use Rattle.utf8.specs.Utf8.{same}
 use Rattle.utf8.specs.Laws.{same-equal}
@@ -23,7 +23,7 @@ use Rattle.json.specs.Table.{Sub, null, bool, num, str, arr, obj, Subs, nil, co
 use Rattle.nodes.specs.Access.{isStringValue, isArrayValue, isObjectValue, textOf, listed, elements, find}
 use Rattle.nodes.specs.Faults.{fault, least}
 use Rattle.nodes.specs.Says.{Node, Sought, Finds, Gives, GivesFound, Seeks}
-use Rattle.nodes.specs.Laws.{least-++, least-comm, least-le, place-at, place-below}
+use Rattle.nodes.specs.Laws.{least-++, least-min, least-comm, least-le, place-at, place-below}
 use Rattle.nodes.specs.declared.Found.{Found}
 use Rattle.nodes.specs.declared.Found.the-variants.{At, Nothing}
 use Rattle.fields.specs.Fields.{textIn, typeText, countIn}
@@ -34,7 +34,7 @@ use Rattle.shapes.specs.Shapes.{shaped, near, matches, isNil, isIntegerValue}
 use Rattle.shapes.specs.Says.{Nodes, GivesTwo, Needs}
 use Rattle.shapes.specs.Laws.{checking, node-room, node-onward, least-needs, unless-yes, array-is, all-then, all-none, pass-none}
 use Rattle.schema.specs.Schema.{isGeometryType, isSurfaceType, geometryType, lod, surfaceType, surface, boundary, boundaries, overBoundary, values, surfaces, semantics, needsLod, geometry, geometries}
-use Rattle.schema.specs.Says.{GivesBoth, GivesOver, GivesThree, lacksLod}
+use Rattle.schema.specs.Says.{GivesBoth, GivesOver, GivesThree, lacksLod, SoundAt, SoundFound}
 
 -- ---- the least fault of checks one after the other, at one value
 
@@ -320,6 +320,51 @@ unfolding isNil least
 nil-no [] h = absurd (h refl)
 nil-no (f ∷ fs) h = refl
 
+nil-test : {l : ℕ} (fs : List ℕ) → None fs → l ≡ least 1179648 fs → eqb l 1179648 ≡ isNil fs
+nil-test {l} fs n e = go (eqb l 1179648) refl
+  where
+    go : (b : Bool) → eqb l 1179648 ≡ b → b ≡ isNil fs
+    go true q = sym (nil-yes fs (n (sym e ∙ eqb-true l 1179648 q)))
+    go false q = sym (nil-no fs (λ z. eqb-false l 1179648 q (e ∙ z)))
+
+-- ---- a boundary with no fault is well shaped
+
+-- the least of several lists is the greatest there is only if it is so of the one in the middle
+middle : (p q r : List ℕ) → least 1179648 (p ++ (q ++ r)) ≡ 1179648 → least 1179648 q ≡ 1179648
+middle p q r e =
+    let h : least (least (least 1179648 p) q) r ≡ 1179648 = simp least-++ at e in
+    let u : least 1179648 p ≡ 1179648 = omega (arith, least-le (least (least 1179648 p) q) r, least-le (least 1179648 p) q, least-le 1179648 p) in
+    let w : least (least 1179648 p) q ≡ 1179648 = omega (arith, least-le (least (least 1179648 p) q) r, least-le (least 1179648 p) q, least-le 1179648 p) in
+    rw u at w
+
+-- the least of any faults below a number, found by way of a greater number
+least-cap : (f b : ℕ) (fs : List ℕ) → f ≤ b → min f (least b fs) ≡ least f fs
+least-cap f b fs h = let z : min b f ≡ f = omega arith in let q = least-min b f fs in let e : least f fs ≡ min (least b fs) f = ap (λ (n : ℕ). least n fs) (sym z) ∙ q in omega arith
+
+module _ {x t : List ℕ} {found : Found} where
+  -- the least of the best so far and the boundary's own fault
+  pub own-best : (c : Check) {f own g : ℕ} → f ≤ 4294967295 → GivesFound (λ o. least 4294967295 (on c o)) x t found own → g ≡ min f own → GivesFound (λ o. least f (on c o)) x t found g
+  own-best c {f} l k e = record { is = λ o s. e ∙ ap (min f) (k .is o s) ∙ least-cap f 4294967295 (on c o) l }
+
+  pub own-sound : (vertices code : ℕ) {own : ℕ} → length x ≤ 65535 → GivesFound (λ o. least 4294967295 (on (boundaries vertices code) o)) x t found own → SoundFound x t found code (eqb own 4294967295)
+  unfolding on Finds
+  own-sound vertices code {own} short k = record { at = λ h i e. record { none = λ z v s. told h i e (eqb-true own 4294967295 z) v s } }
+    where
+      told : (code ≡ 0 → ⊥) → (i : ℕ) → found ≡ At i → own ≡ 4294967295 → (v : Json) → Sub x t i v → shaped (depth code) v ≡ []
+      told h i e z v s =
+          let fs : List ℕ = isArray v ++ (shaped (depth code) v ++ near vertices (depth code) v) in
+          let g : own ≡ least 4294967295 (boundaries vertices code v) = k .is (some v) (subst (Finds x t (some v)) (sym e) (v, refl, s)) in
+          let q : least 4294967295 fs ≡ 4294967295 = ap (least 4294967295) (bound-lists vertices code v false (ne-eqb code 0 h)) ∙ sym g ∙ z in
+          let c : least 1179648 fs ≡ 1179648 = sym (least-cap 1179648 4294967295 fs (omega arith)) ∙ ap (min 1179648) q in
+          none-shaped short (depth code) s (middle (isArray v) (shaped (depth code) v) (near vertices (depth code) v) c)
+
+module _ {x t : List ℕ} {i : ℕ} where
+  pub shape-known : {code : ℕ} {b : Bool} → SoundAt x t i code b → b ≡ true → Gives (λ v. isNil (shaped (depth code) v)) x t i true
+  shape-known {code} k e = record { is = λ v s. sym (nil-yes (shaped (depth code) v) (k .none e v s)) }
+
+  pub shape-told : (code : ℕ) {d l : ℕ} → Node x t i → d ≡ depth code → Gives (λ v. least 1179648 (shaped d v)) x t i l → Gives (λ v. isNil (shaped (depth code) v)) x t i (eqb l 1179648)
+  shape-told code n e g = record { is = λ v s. nil-test (shaped (depth code) v) (none-shaped (n .short) (depth code) s) (g .is v s ∙ ap (λ (d : ℕ). least 1179648 (shaped d v)) e) }
+
 over-lists : (count code : ℕ) (w v : Json) (b : Bool) → (code ≡ 0 → ⊥) → isNil (shaped (depth code) w) ≡ b → cond b (matches (valuesDepth code) w v) [] ++ near count (valuesDepth code) v ≡ overBoundary count code (some w) v
 unfolding overBoundary
 over-lists count code w v b h e = rw (ne-eqb code 0 h, e)
@@ -343,23 +388,19 @@ module _ {x t : List ℕ} {k : ℕ} {found : Found} (best count code : ℕ) wher
     unfolding overBoundary least
     over-uncoded h = over-some (λ w v z s. rw h)
 
-    module _ {p q m l : ℕ} (h : code ≡ 0 → ⊥) (i : p ≡ valuesDepth code) (n : Gives (λ v. least best (near count p v)) x t k m) (j : q ≡ depth code) (s : Gives (λ w. least 1179648 (shaped q w)) x t b l) where
+    module _ {p m : ℕ} {l : Bool} (h : code ≡ 0 → ⊥) (i : p ≡ valuesDepth code) (n : Gives (λ v. least best (near count p v)) x t k m) (s : Gives (λ w. isNil (shaped (depth code) w)) x t b l) where
       far : (v : Json) → Sub x t k v → m ≡ least best (near count (valuesDepth code) v)
       far v z = n .is v z ∙ ap (λ (d : ℕ). least best (near count d v)) i
 
-      form : (w : Json) → Sub x t b w → l ≡ least 1179648 (shaped (depth code) w)
-      form w z = s .is w z ∙ ap (λ (d : ℕ). least 1179648 (shaped d w)) j
+      pub over-unshaped : not l ≡ true → GivesOver (λ o w. least best (overBoundary count code o w)) x t found k m
+      over-unshaped u = over-some (λ w v y z. far v z ∙ ap (least best) (over-lists count code w v false h (sym (s .is w y) ∙ not-true l u)))
 
-      pub over-unshaped : (l ≡ 1179648 → ⊥) → GivesOver (λ o w. least best (overBoundary count code o w)) x t found k m
-      over-unshaped u = over-some (λ w v y z. far v z ∙ ap (least best) (over-lists count code w v false h (nil-no (shaped (depth code) w) (λ f. u (form w y ∙ f)))))
-
-      pub over-shaped : {g r : ℕ} → length x ≤ 65535 → l ≡ 1179648 → g ≡ valuesDepth code → GivesTwo (λ w u. least m (matches g w u)) x t b k r → GivesOver (λ o w. least best (overBoundary count code o w)) x t found k r
-      over-shaped {g} {r} short u o f =
+      pub over-shaped : {g r : ℕ} → not l ≡ false → g ≡ valuesDepth code → GivesTwo (λ w u. least m (matches g w u)) x t b k r → GivesOver (λ o w. least best (overBoundary count code o w)) x t found k r
+      over-shaped {g} {r} u o f =
           over-some
           (λ w v y z.
           step best m (near count (valuesDepth code) v) (matches (valuesDepth code) w v) (far v z) (f .is w v y z ∙ ap (λ (d : ℕ). least m (matches d w v)) o)
-          ∙ (least-comm best (near count (valuesDepth code) v) (matches (valuesDepth code) w v)
-          ∙ ap (least best) (over-lists count code w v true h (nil-yes (shaped (depth code) w) (none-shaped short (depth code) y (sym (form w y) ∙ u))))))
+          ∙ (least-comm best (near count (valuesDepth code) v) (matches (valuesDepth code) w v) ∙ ap (least best) (over-lists count code w v true h (sym (s .is w y) ∙ not-false l u))))
 
   pub values-is : {m r : ℕ} → Gives (λ v. least best (isArray v)) x t k m → GivesOver (λ o w. least m (overBoundary count code o w)) x t found k r → GivesOver (λ o w. least best (values count code o w)) x t found k r
   values-is {m} a g = record { is = λ o v f s. goes (then (a .is v s) (then (g .is o v f s) done)) ∙ ap (least best) (values-all count code o v) }

@@ -1,11 +1,11 @@
 -- What the walk over a node table asks and tells. Assumes nothing: these are definitions.
 use mathlib.Core.Path.{_≡_}
-use mathlib.Core.Bool.{true, cond, not, _||_}
+use mathlib.Core.Bool.{Bool, true, cond, not, _||_}
 use mathlib.Core.List.{List, [], _∷_}
 use lib.ListN.{length, drop}
 use mathlib.Core.Option.{Option}
 use Prim.Native.Nat.{ℕ, _≤_}
-use Rattle.words.specs.Words.{is}
+use Rattle.words.specs.Words.{is, depth}
 use Rattle.json.specs.Tree.{Json}
 use Rattle.json.specs.Table.{Sub}
 use Rattle.nodes.specs.Access.{isObjectValue, Member, members}
@@ -17,6 +17,7 @@ use Rattle.fields.specs.Fields.{textIn, membersIn, objectsOf}
 use Rattle.fields.specs.Says.{MemberAt, Indexed}
 use Rattle.fields.specs.declared.Index.{Index}
 use Rattle.shapes.specs.Checks.{unless, isSome}
+use Rattle.shapes.specs.Shapes.{shaped}
 
 -- r is what f gives for two values that were sought, if they were found
 pub record GivesBoth (f : Option Json → Option Json → ℕ) (x t : List ℕ) (one two : Found) (r : ℕ) : Type 0 where
@@ -33,6 +34,13 @@ pub record GivesThree (f : Json → Option Json → Option Json → ℕ) (x t : 
 -- the fault of rule 8 at v, which has no lod, unless its type is `GeometryInstance`
 abbrev pub lacksLod : ℕ → Json → Option Json → Option Json → ℕ
 lacksLod best v kind lod = least best (cond (is "GeometryInstance" (textIn kind)) [] (unless (not (isObjectValue v) || isSome lod) 8 v))
+
+-- if sound is true, the value that stands at the node i, or that was found, has the shape of a boundary of that code
+pub record SoundAt (x t : List ℕ) (i code : ℕ) (sound : Bool) : Type 0 where
+  pub none : sound ≡ true → (v : Json) → Sub x t i v → shaped (depth code) v ≡ []
+
+pub record SoundFound (x t : List ℕ) (found : Found) (code : ℕ) (sound : Bool) : Type 0 where
+  pub at : (code ≡ 0 → ⊥) → (i : ℕ) → found ≡ At i → SoundAt x t i code sound
 
 -- an object stands at the node i
 pub record ObjectNode (x t : List ℕ) (i : ℕ) : Type 0 where

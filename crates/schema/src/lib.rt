@@ -3,15 +3,16 @@ ghost use Prim.Native.Nat.{_<_};
 ghost use mathlib.Core.List.{List};
 ghost use mathlib.Core.Path.{_≡_};
 ghost use lib.ListN.{length};
-ghost use Rattle.words.specs.Words.{objectWords, geometryWords};
+ghost use Rattle.words.specs.Words.{objectWords, geometryWords, depth};
 ghost use Rattle.nodes.specs.Faults.{least};
 ghost use Rattle.nodes.specs.Says.{Node, Sought, Gives, GivesFound};
 ghost use Rattle.shapes.specs.Checks.{on, isObject, eachMember};
+ghost use Rattle.shapes.specs.Shapes.{shaped, isNil};
 ghost use Rattle.nodes.specs.Access.{Member};
 ghost use Rattle.fields.specs.Says.{CodeOf};
 ghost use Rattle.schema.specs.Schema.{wordIs, objectType, geometryType, surfaceType, boundaries, overBoundary, nameFault, cityJson};
 ghost use Rattle.schema.specs.Schema as schema;
-ghost use Rattle.schema.specs.Says.{GivesBoth, GivesOver, GivesThree, lacksLod, ObjectNode, Named, Extra, FillsAt, IndexedFound, IndexedAt};
+ghost use Rattle.schema.specs.Says.{GivesBoth, GivesOver, GivesThree, lacksLod, ObjectNode, Named, Extra, FillsAt, IndexedFound, IndexedAt, SoundAt, SoundFound};
 use fields::Index;
 use nodes::Found;
 
@@ -170,6 +171,17 @@ fn surfaces(text: &[u8], table: &[u32], found: Found, best: u32) -> u32
     least
 }
 
+// Is the boundary at a node well shaped? That is known of a sound one.
+fn is_shaped(text: &[u8], table: &[u32], i: usize, code: usize, sound: bool) -> bool
+    requires { ⌜ (Node (now text) (now table) i) × (SoundAt (now text) (now table) i code sound) ⌝ }
+    ensures { λ r. ⌜ Gives (λ v. isNil (shaped (depth code) v)) (now (text .entry)) (now (table .entry)) i r ⌝ }
+{
+    if sound {
+        return true;
+    }
+    shapes::shaped(text, table, i, words::depth_of(code), 1179648) == 1179648
+}
+
 // Rule 12 of `values` over a boundary, which is judged only if the boundary is well shaped, and rule 13 of its integers.
 fn over_boundary(
     text: &[u8],
@@ -177,10 +189,11 @@ fn over_boundary(
     v: usize,
     boundary: Found,
     code: usize,
+    sound: bool,
     surfaces: usize,
     best: u32,
 ) -> u32
-    requires { ⌜ (Node (now text) (now table) v) × (Sought (now text) (now table) boundary) ⌝ }
+    requires { ⌜ (Node (now text) (now table) v) × (Sought (now text) (now table) boundary) × (SoundFound (now text) (now table) boundary code sound) ⌝ }
     ensures { λ r. ⌜ GivesOver (λ o w. least best (overBoundary surfaces code o w)) (now (text .entry)) (now (table .entry)) boundary v r ⌝ }
 {
     let Found::At(b) = boundary else {
@@ -190,7 +203,7 @@ fn over_boundary(
         return best;
     }
     let far = shapes::near(text, table, v, words::values_depth_of(code), surfaces, best);
-    if shapes::shaped(text, table, b, words::depth_of(code), 1179648) != 1179648 {
+    if !is_shaped(text, table, b, code, sound) {
         return far;
     }
     shapes::matches(text, table, b, v, words::values_depth_of(code), far)
@@ -203,29 +216,31 @@ fn values(
     found: Found,
     boundary: Found,
     code: usize,
+    sound: bool,
     surfaces: usize,
     best: u32,
 ) -> u32
-    requires { ⌜ (Sought (now text) (now table) found) × (Sought (now text) (now table) boundary) ⌝ }
+    requires { ⌜ (Sought (now text) (now table) found) × (Sought (now text) (now table) boundary) × (SoundFound (now text) (now table) boundary code sound) ⌝ }
     ensures { λ r. ⌜ GivesBoth (λ o p. least best (on (schema.values surfaces code p) o)) (now (text .entry)) (now (table .entry)) found boundary r ⌝ }
 {
     let Found::At(v) = found else {
         return best;
     };
     let kind = shapes::array(text, table, v, best);
-    over_boundary(text, table, v, boundary, code, surfaces, kind)
+    over_boundary(text, table, v, boundary, code, sound, surfaces, kind)
 }
 
-// A geometry's semantics.
+// A geometry's semantics over its boundary, which is sound if it has no fault.
 fn semantics(
     text: &[u8],
     table: &[u32],
     found: Found,
     boundary: Found,
     code: usize,
+    sound: bool,
     best: u32,
 ) -> u32
-    requires { ⌜ (Sought (now text) (now table) found) × (Sought (now text) (now table) boundary) ⌝ }
+    requires { ⌜ (Sought (now text) (now table) found) × (Sought (now text) (now table) boundary) × (SoundFound (now text) (now table) boundary code sound) ⌝ }
     ensures { λ r. ⌜ GivesBoth (λ o p. least best (on (schema.semantics code p) o)) (now (text .entry)) (now (table .entry)) found boundary r ⌝ }
 {
     let Found::At(i) = found else {
@@ -243,6 +258,7 @@ fn semantics(
         each,
         boundary,
         code,
+        sound,
         fields::count_found(text, table, all),
         d,
     )
@@ -297,8 +313,9 @@ fn geometry(text: &[u8], table: &[u32], i: usize, vertices: usize, object: usize
     let d = need_lod(text, table, i, kind, level, c);
     let e = geometry_type(text, table, kind, code, object, d);
     let f = lod(text, table, level, e);
-    let g = boundary(text, table, outline, code, vertices, f);
-    semantics(text, table, meaning, outline, code, g)
+    let own = boundary(text, table, outline, code, vertices, 0xffff_ffff);
+    let g = nodes::lesser(f, own);
+    semantics(text, table, meaning, outline, code, own == 0xffff_ffff, g)
 }
 
 // The geometries of an object: an array of them.

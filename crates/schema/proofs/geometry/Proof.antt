@@ -2,7 +2,8 @@
 use mathlib.Core.Path.{refl}
 use Rattle.utf8.specs.Ascii.{ascii}
 use Rattle.shapes.specs.Laws.{seeks-find}
-use Rattle.schema.proofs.GeometryLaws.{geometric, sought, geometry-coded, geometry-is}
+use Rattle.schema.specs.Schema.{boundaries}
+use Rattle.schema.proofs.GeometryLaws.{geometric, sought, geometry-coded, own-best, own-sound, geometry-is}
 use Rattle.schema.proofs.geometry.Statement.{statement}
 use Rattle.schema.proofs.geometry.Tie as tie
 
@@ -28,11 +29,11 @@ boundary-requires : tie.Need-boundary-requires
 boundary-requires c κs = sought (c .before .before .before .before .before .before .before .before .before .before .before .before .before .before .before .before .before .pre) (c .before .before .before .before .before .before .before .before .before .member3 .ensures)
 
 semantics-requires : tie.Need-semantics-requires
-semantics-requires c κs = (sought (c .before .before .before .before .before .before .before .before .before .before .before .before .before .before .before .before .before .before .pre) (c .before .before .before .before .before .before .before .before .member4 .ensures), sought (c .before .before .before .before .before .before .before .before .before .before .before .before .before .before .before .before .before .before .pre) (c .before .before .before .before .before .before .before .before .before .before .member3 .ensures))
+semantics-requires c κs = (sought (c .before .before .before .before .before .before .before .before .before .before .before .before .before .before .before .before .before .before .before .pre) (c .before .before .before .before .before .before .before .before .before .member4 .ensures), sought (c .before .before .before .before .before .before .before .before .before .before .before .before .before .before .before .before .before .before .before .pre) (c .before .before .before .before .before .before .before .before .before .before .before .member3 .ensures), own-sound _ _ (c .before .before .before .before .before .before .before .before .before .before .before .before .before .before .before .before .before .before .before .pre .short) (c .before .boundary .ensures))
 
 returns : tie.Need-returns
 unfolding ascii
-returns c = geometry-is _ _ _ _ _ _ _ _ _ _ (seeks-find "type" refl (c .before .before .before .before .before .before .before .before .before .before .before .before .before .before .before .member .ensures)) (seeks-find "lod" refl (c .before .before .before .before .before .before .before .before .before .before .before .before .before .member2 .ensures)) (seeks-find "boundaries" refl (c .before .before .before .before .before .before .before .before .before .before .before .member3 .ensures)) (seeks-find "semantics" refl (c .before .before .before .before .before .before .before .before .before .member4 .ensures)) (c .before .before .before .before .before .before .before .before .geometry-code .ensures) (c .before .before .before .before .before .before .before .object .ensures) (c .before .before .before .before .before .before .need .ensures) (c .before .before .before .before .before .need2 .ensures) (c .before .before .before .before .need-lod .ensures) (c .before .before .before .geometry-type .ensures) (c .before .before .lod .ensures) (c .before .boundary .ensures) (c .semantics .ensures)
+returns c = geometry-is _ _ _ _ _ _ _ _ _ _ (seeks-find "type" refl (c .before .before .before .before .before .before .before .before .before .before .before .before .before .before .before .before .member .ensures)) (seeks-find "lod" refl (c .before .before .before .before .before .before .before .before .before .before .before .before .before .before .member2 .ensures)) (seeks-find "boundaries" refl (c .before .before .before .before .before .before .before .before .before .before .before .before .member3 .ensures)) (seeks-find "semantics" refl (c .before .before .before .before .before .before .before .before .before .before .member4 .ensures)) (c .before .before .before .before .before .before .before .before .before .geometry-code .ensures) (c .before .before .before .before .before .before .before .before .object .ensures) (c .before .before .before .before .before .before .before .need .ensures) (c .before .before .before .before .before .before .need2 .ensures) (c .before .before .before .before .before .need-lod .ensures) (c .before .before .before .before .geometry-type .ensures) (c .before .before .before .lod .ensures) (own-best (boundaries _ _) (search geometric) (c .before .before .boundary .ensures) (c .before .lesser .ensures)) (c .semantics .ensures)
 
 pub geometry-spec : {M : Type 1} → statement M
-geometry-spec = tie.close (tie.spec (λ c. search geometric) (λ c κs. search geometric) (λ c. search geometric) (λ c κs. search geometric) (λ c. search geometric) (λ c κs. search geometric) (λ c. search geometric) (λ c κs. search geometric) geometry-code-requires (λ c κs. search geometric) need-requires need-requires-2 need-lod-requires geometry-type-requires lod-requires boundary-requires semantics-requires returns)
+geometry-spec = tie.close (tie.spec (λ c. search geometric) (λ c κs. search geometric) (λ c. search geometric) (λ c κs. search geometric) (λ c. search geometric) (λ c κs. search geometric) (λ c. search geometric) (λ c κs. search geometric) geometry-code-requires (λ c κs. search geometric) need-requires need-requires-2 need-lod-requires geometry-type-requires lod-requires boundary-requires (λ c κs. search geometric) semantics-requires returns)

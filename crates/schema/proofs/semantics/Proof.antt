@@ -24,7 +24,7 @@ count-found-requires : tie.Need-count-found-requires
 count-found-requires c κs = sought (at-node (c .before .before .before .before .before .before .before .before .before .before .before .before .before .pre .0) (c .before .before .before .before .before .before .before .before .before .found .given .1)) (c .before .before .before .before .before .before .member .ensures)
 
 values-requires : tie.Need-values-requires
-values-requires c κs = (sought (at-node (c .before .before .before .before .before .before .before .before .before .before .before .before .before .before .pre .0) (c .before .before .before .before .before .before .before .before .before .before .found .given .1)) (c .before .before .before .before .before .member2 .ensures), (c .before .before .before .before .before .before .before .before .before .before .before .before .before .before .pre .1))
+values-requires c κs = (sought (at-node (c .before .before .before .before .before .before .before .before .before .before .before .before .before .before .pre .0) (c .before .before .before .before .before .before .before .before .before .before .found .given .1)) (c .before .before .before .before .before .member2 .ensures), (c .before .before .before .before .before .before .before .before .before .before .before .before .before .before .pre .1), (c .before .before .before .before .before .before .before .before .before .before .before .before .before .before .pre .2))
 
 returns-2 : tie.Need-returns-2
 unfolding ascii
