@@ -13,7 +13,7 @@ use Rattle.json.specs.Tree as tree
 use Rattle.json.specs.Machine.{Frame, array, object, Mode, step, go, dead, finish, bad, tooDeep, reads, read, isBlank}
 use Rattle.json.specs.Machine.Mode.{want, first, name0, name1, got}
 use Rattle.json.specs.Table.{size, sizes, widths, Sub, arr, obj, Subs, nil, Fields, last}
-use Rattle.json.specs.Says.{from, Skips, blanks, Fits, Wrote, Plain, Ready, Opened, Read, Told, Named, Names, Membered, Member, Atom}
+use Rattle.json.specs.Says.{from, Stays, Skips, blanks, Fits, Wrote, Plain, Scalar, Digits, Atomic, Ready, Opened, Read, Told, Named, Names, Membered, Member, Atom}
 use Rattle.json.specs.Parse.{Tells}
 use Rattle.json.specs.Laws.{sizes-◂, widths-with, subs-◂, fields-with, same-subs, same-fields, same-quoted}
 use Rattle.json.specs.Steps.{open-array, open-object, deep-array, deep-object, first-close, first-else, name0-close, name0-else, array-comma, array-close, array-no, object-comma, object-close, object-no, got-end}
@@ -23,8 +23,8 @@ use Rattle.json.specs.declared.Walk.{Walk}
 use Rattle.json.specs.declared.Walk.the-variants as walk
 use Rattle.json.specs.declared.Parsed.the-variants as parsed
 use Rattle.json.proofs.Walk.{the-type}
-use Rattle.json.proofs.Moves.{at-end, moves, dies, deepens, alike, short}
-use Rattle.json.proofs.Leaves.{words-of}
+use Rattle.json.proofs.Moves.{at-end, moves, dies, deepens, alike, short, stays-none}
+use Rattle.json.proofs.Leaves.{words-of, atom-fits}
 
 -- what the code knows in the else of `let Walk::Read(e, k) = r else { .. }`
 abbrev pub NoRead : Walk → Type 0
@@ -50,6 +50,35 @@ told-from x t₀ t m m′ at at′ levels levels′ most most′ n (walk.Deep q)
 pub ready-node : {x t : List ℕ} {at levels n : ℕ} → Ready x t at levels 32 n → Ready x t at 0 32 n
 ready-node r = record { texts = r .texts; words = r .words; high = r .high; most32 = omega arith; fits = omega (arith, r .fits) }
 
+-- a value that holds no other, after the blanks before it
+leaf-read : {x t₀ t : List ℕ} {at i levels n e j : ℕ} → Stays blanks x at i → Ready x t₀ at levels 32 n → Atomic x t₀ t i n e j → Read x t₀ t want at levels 32 n e j
+leaf-read {t} {n} k g h =
+    let f = h .leaf in
+    let w = h .wrote in
+    record {
+      value = f .value;
+      stands = f .stands t n (rw (h .width) (w .placed));
+      ends = rw (f .width) (h .width);
+      goes = λ ks z. k .same want tt ks ∙ f .goes ks;
+      more = omega (arith, k .low, f .more);
+      inside = f .inside;
+      fits = omega (arith, g .fits, k .low, f .more, h .width);
+      long = w .long;
+      below = w .below;
+    }
+
+-- an element that `digits_end` found
+module _ {x t₀ : List ℕ} {at levels n e : ℕ} (d : Digits x at e) (z : e ≡ at → ⊥) (g : Ready x t₀ at levels 32 n) where
+  pub digits-fit : Fits t₀ n at e (n + 3)
+  unfolding Scalar
+  digits-fit = atom-fits x at (scan.End e) (d .leaf z) refl (ready-node g)
+
+  pub digits-read : (t : List ℕ) → Wrote t₀ t n at e (n + 3) → Told x t₀ t want at levels 32 n (walk.Read e (n + 3))
+  unfolding Told
+  digits-read t w =
+      let a : Atomic x t₀ t at n e (n + 3) = record { leaf = d .leaf z; wrote = w; width = refl } in
+      leaf-read (stays-none blanks x at (g .high)) g a
+
 -- a value, after the blanks before it
 module _ {x : List ℕ} {at i : ℕ} (k : Skips blanks isBlank x at i) where
   pub value-out : (t₀ t : List ℕ) (levels n : ℕ) → length x ≤ i → Told x t₀ t want at levels 32 n (walk.Bad i)
@@ -58,20 +87,7 @@ module _ {x : List ℕ} {at i : ℕ} (k : Skips blanks isBlank x at i) where
 
   pub value-atom : (t₀ t : List ℕ) (levels n : ℕ) (r : Walk) → Ready x t₀ at levels 32 n → Atom x t₀ t i n r → Told x t₀ t want at levels 32 n r
   unfolding Told Atom
-  value-atom t₀ t levels n (walk.Read e j) g h =
-      let f = h .leaf in
-      let w = h .wrote in
-      record {
-        value = f .value;
-        stands = f .stands t n (rw (h .width) (w .placed));
-        ends = rw (f .width) (h .width);
-        goes = λ ks z. k .stays .same want tt ks ∙ f .goes ks;
-        more = omega (arith, k .stays .low, f .more);
-        inside = f .inside;
-        fits = omega (arith, g .fits, k .stays .low, f .more, h .width);
-        long = w .long;
-        below = w .below;
-      }
+  value-atom t₀ t levels n (walk.Read e j) g h = leaf-read (k .stays) g h
   value-atom t₀ t levels n (walk.Bad q) g h = λ ks z. k .stays .same want tt ks ∙ h ks
   value-atom t₀ t levels n (walk.Deep q) g h = λ ks z. k .stays .same want tt ks ∙ h ks
 

@@ -14,16 +14,16 @@ use Rattle.json.specs.Tree.{Json, Members}
 use Rattle.json.specs.Tree as tree
 use Rattle.json.specs.Machine.{Frame, Mode, value, step, go, bad, isBlank, isDigit}
 use Rattle.json.specs.Machine.Role.{name}
-use Rattle.json.specs.Machine.Mode.{want, name1, colon, neg, nought, int, chars}
+use Rattle.json.specs.Machine.Mode.{want, name1, colon, neg, nought, int, mant, chars}
 use Rattle.json.specs.Table.{size, Words, Quoted, isNumeric, Sub, null, bool, num, str}
-use Rattle.json.specs.Says.{from, Within, Reads, Skips, blanks, numbered, charsOf, closedOf, ReadsString, WordAt, literalOf, ReadsWord, Placed, Fits, Wrote, Leaf, Scalar, Ready, Atom, Names}
+use Rattle.json.specs.Says.{from, Within, Reads, Skips, blanks, digital, numbered, charsOf, closedOf, ReadsString, WordAt, literalOf, ReadsWord, Placed, Fits, Wrote, Leaf, Scalar, Digits, Ready, Atom, Names}
 use Rattle.json.specs.declared.Scan.{Scan}
 use Rattle.json.specs.declared.Scan.the-variants.{End, Bad}
 use Rattle.json.specs.declared.Walk.the-variants as walk
-use Rattle.json.specs.Steps.{want-quote, want-minus, want-0, want-digit, want-t, want-f, want-n, want-no, name-quote, name-no, colon-yes, colon-no}
-use Rattle.json.proofs.Bytes.{is-digit, under-digit, over-digit}
+use Rattle.json.specs.Steps.{nought-else, want-quote, want-minus, want-0, want-digit, want-t, want-f, want-n, want-no, name-quote, name-no, colon-yes, colon-no}
+use Rattle.json.proofs.Bytes.{over-blank, is-digit, under-digit, over-digit}
 use Rattle.json.proofs.Moves.{moves, dies, short}
-use Rattle.json.proofs.Parts.{NoEnd}
+use Rattle.json.proofs.Parts.{NoEnd, looks, int-digits, mant-done}
 
 -- three words are written at n
 pub three : (t₀ : List ℕ) (n u v w : ℕ) → n + 2 < length t₀ → Wrote t₀ (set (set (set t₀ n u) (n + 1) v) (n + 2) w) n u v w
@@ -135,6 +135,17 @@ module _ (x : List ℕ) (p : ℕ) (l : p < length x) where
     pub scalar-high : 58 ≤ getD x p 0 → Scalar x p (Bad p)
     unfolding Scalar
     scalar-high h = λ ks. dies x want ks p l (want-no 32 x p _ w h91 h123 h34 h45 h48 h116 h102 h110 (over-digit (getD x p 0) (omega arith) h) ks)
+
+-- an integer that is written with digits alone: none is found, or the byte after its digits goes on with no fraction and no exponent
+pub digits-no : (x : List ℕ) (p : ℕ) → Digits x p p
+digits-no x p = record { leaf = λ z. absurd (z refl) }
+
+pub digits-yes : (x : List ℕ) (p e : ℕ) → p < length x → 49 ≤ getD x p 0 → getD x p 0 ≤ 57 → Skips digital isDigit x (p + 1) e → e < length x → (getD x e 0 ≡ 46 → ⊥) → (getD x e 0 ≡ 101 → ⊥) → (getD x e 0 ≡ 69 → ⊥) → Digits x p e
+unfolding Scalar
+digits-yes x p e l lo hi s m d h g =
+    let r : Reads x int (numbered x) (p + 1) (End e) = int-digits s (looks nought mant (numbered x) m (nought-else 32 x e _ d) (mant-done m h g)) in
+    let v : Scalar x p (End e) = scalar-digit x p l (over-blank (getD x p 0) (omega arith)) (λ z. omega arith) (omega arith) (omega arith) r in
+    record { leaf = λ z. v }
 
 -- and its node
 module _ (x : List ℕ) (at : ℕ) (r : Scan) (s : Scalar x at r) where

@@ -179,7 +179,11 @@ unfoldable pub Scalar : List ℕ → ℕ → Scan → Type 0
 Scalar x p (scan.End e) = Leaf x p e
 Scalar x p (scan.Bad q) = (ks : List Frame) → from x want ks p ≡ bad q
 
--- and its node is written at n, up to the word k
+-- what `digits_end` tells: where an end was found, a value that holds no other stands up to it
+pub record Digits (x : List ℕ) (p e : ℕ) : Type 0 where
+  pub leaf : (e ≡ p → ⊥) → Leaf x p e
+
+-- such a value, and its node is written at n, up to the word k
 pub record Atomic (x t₀ t : List ℕ) (at n e k : ℕ) : Type 0 where
   pub leaf : Leaf x at e
   pub wrote : Wrote t₀ t n at e k

@@ -4,7 +4,7 @@ ghost use mathlib.Core.Path.{_≡_};
 ghost use lib.ListN.{length};
 ghost use Rattle.json.specs.Machine.{isBlank, isDigit, isHex, isEscape};
 ghost use Rattle.json.specs.Machine.Mode.{want, first, name0, neg, nought, int, dot, mant, exp, sign};
-ghost use Rattle.json.specs.Says.{blanks, digital, Skips, Reads, to, numbered, charsOf, escOf, hexOf, ReadsString, ReadsWord, Fits, Wrote, Plain, Scalar, Atom, Ready, Opened, Told, Names, Member};
+ghost use Rattle.json.specs.Says.{blanks, digital, Skips, Reads, to, numbered, charsOf, escOf, hexOf, ReadsString, ReadsWord, Fits, Wrote, Plain, Scalar, Digits, Atom, Ready, Opened, Told, Names, Member};
 ghost use Rattle.json.specs.Parse.{Tells};
 
 // What reading a text gives: how many words of the table are its tree's; the offset of a byte that no JSON text has there, or of
@@ -311,6 +311,37 @@ fn scalar(text: &[u8], at: usize) -> Scan
     }
 }
 
+// Past an integer that is written with digits alone, the first not 0, and does not end the text; `at` if none stands there.
+fn digits_end(text: &[u8], at: usize) -> usize
+    ensures { λ r. ⌜ Digits (now (text .entry)) at r ⌝ }
+{
+    if at >= text.len() {
+        return at;
+    }
+    let b = text[at];
+    if b < b'1' {
+        return at;
+    }
+    if b > b'9' {
+        return at;
+    }
+    let e = skip_digits(text, at + 1);
+    if e >= text.len() {
+        return at;
+    }
+    let c = text[e];
+    if c == b'.' {
+        return at;
+    }
+    if c == b'e' {
+        return at;
+    }
+    if c == b'E' {
+        return at;
+    }
+    e
+}
+
 // A value that opens no level, and its node at n.
 fn atom(text: &[u8], at: usize, table: &mut [u32], n: usize) -> Walk
     requires { ⌜ (Plain (now text) at) × (Ready (now text) (now table) at 0 32 n) ⌝ }
@@ -378,6 +409,19 @@ fn value(text: &[u8], at: usize, levels: usize, table: &mut [u32], n: usize) -> 
     atom(text, i, table, n)
 }
 
+// An element of an array, as `value` reads it: most are integers, which are looked for first.
+fn element(text: &[u8], at: usize, levels: usize, table: &mut [u32], n: usize) -> Walk
+    requires { ⌜ Ready (now text) (now table) at levels 32 n ⌝ }
+    ensures { λ r. ⌜ Told (now (text .entry)) (now (table .entry)) (now (table .exit)) want at levels 32 n r ⌝ }
+{
+    let e = digits_end(text, at);
+    if e != at {
+        put_node(table, n, at, e, n + 3);
+        return Walk::Read(e, n + 3);
+    }
+    value(text, at, levels, table, n)
+}
+
 // An array, whose bracket stands at `at`: its elements' words from n + 3 on, and its node at n when it closes.
 fn array(text: &[u8], at: usize, levels: usize, table: &mut [u32], n: usize) -> Walk
     requires { ⌜ Opened 91 (now text) (now table) at levels n ⌝ }
@@ -393,7 +437,7 @@ fn array(text: &[u8], at: usize, levels: usize, table: &mut [u32], n: usize) -> 
     }
     let mut m = n + 3;
     loop {
-        let r = value(text, i, levels, table, m);
+        let r = element(text, i, levels, table, m);
         let Walk::Read(e, k) = r else {
             return r;
         };

@@ -1,4 +1,4 @@
--- The proof of the cycle of calls {array, member, object, value}. The measure goes by the levels left: three times as many for a value, one more for a member, and two more for a container.
+-- The proof of the cycle of calls {array, element, member, object, value}. The measure goes by the levels left: three times as many for a value, one more for an element or a member, and two more for a container.
 -- A container's loop knows that from its opening on the machine comes to where the next value, or the next name, starts, and that the words of those before stand in the table.
 -- Assumes nothing.
 use Prim.Native.Nat.{ℕ, _+_, _-_, _*_, _<_}
@@ -10,25 +10,32 @@ use Rattle.json.proofs.Growth.{Elements, Fielded, element-high, array-f
 use Rattle.json.proofs.Rules.{walks}
 use Rattle.json.proofs.array.Reads as array
 use Rattle.json.proofs.array.Kinds as array-kinds
-use Rattle.json.proofs.+array+member+object+value.Lts-array as array-lts
+use Rattle.json.proofs.+array+element+member+object+value.Lts-array as array-lts
+use Rattle.json.proofs.element.Reads as element
+use Rattle.json.proofs.element.Kinds as element-kinds
+use Rattle.json.proofs.+array+element+member+object+value.Lts-element as element-lts
 use Rattle.json.proofs.member.Reads as member
 use Rattle.json.proofs.member.Kinds as member-kinds
-use Rattle.json.proofs.+array+member+object+value.Lts-member as member-lts
+use Rattle.json.proofs.+array+element+member+object+value.Lts-member as member-lts
 use Rattle.json.proofs.object.Reads as object
 use Rattle.json.proofs.object.Kinds as object-kinds
-use Rattle.json.proofs.+array+member+object+value.Lts-object as object-lts
+use Rattle.json.proofs.+array+element+member+object+value.Lts-object as object-lts
 use Rattle.json.proofs.value.Reads as value
 use Rattle.json.proofs.value.Kinds as value-kinds
-use Rattle.json.proofs.+array+member+object+value.Lts-value as value-lts
+use Rattle.json.proofs.+array+element+member+object+value.Lts-value as value-lts
 use Rattle.json.proofs.atom.Reads as atom-reads
+use Rattle.json.proofs.digits_end.Reads as digits-end-reads
 use Rattle.json.proofs.member_name.Reads as member-name-reads
 use Rattle.json.proofs.put_node.Reads as put-node-reads
 use Rattle.json.proofs.skip_blanks.Reads as skip-blanks-reads
-use Rattle.json.proofs.+array+member+object+value.{statement}
-use Rattle.json.proofs.+array+member+object+value.Tie.{close}
+use Rattle.json.proofs.+array+element+member+object+value.{statement}
+use Rattle.json.proofs.+array+element+member+object+value.Tie.{close}
 
 abbrev μ-array : Measures 2 array-kinds.ps ℕ
 μ-array κs a = 3 * a .1 .1 .0 + 2
+
+abbrev μ-element : Measures 2 element-kinds.ps ℕ
+μ-element κs a = 3 * a .1 .1 .0 + 1
 
 abbrev μ-member : Measures 2 member-kinds.ps ℕ
 μ-member κs a = 3 * a .1 .1 .0 + 1
@@ -44,6 +51,12 @@ array-at t = and 2 array-kinds.ps (is 2 array-kinds.ps μ-array t) array.Pre
 
 abbrev array-below : ℕ → In 2 array-kinds.ps
 array-below t = and 2 array-kinds.ps (falls 2 array-kinds.ps _<_ μ-array t) array.Pre
+
+abbrev element-at : ℕ → In 2 element-kinds.ps
+element-at t = and 2 element-kinds.ps (is 2 element-kinds.ps μ-element t) element.Pre
+
+abbrev element-below : ℕ → In 2 element-kinds.ps
+element-below t = and 2 element-kinds.ps (falls 2 element-kinds.ps _<_ μ-element t) element.Pre
 
 abbrev member-at : ℕ → In 2 member-kinds.ps
 member-at t = and 2 member-kinds.ps (is 2 member-kinds.ps μ-member t) member.Pre
@@ -65,7 +78,10 @@ value-below t = and 2 value-kinds.ps (falls 2 value-kinds.ps _<_ μ-value t) val
 
 -- what is known of the functions that each calls
 abbrev array-calls : ℕ → array-lts.Claims
-array-calls t = (skip-blanks-reads.Asked, skip-blanks-reads.Learnt, put-node-reads.Asked, put-node-reads.Learnt, value-below t, value.Post)
+array-calls t = (skip-blanks-reads.Asked, skip-blanks-reads.Learnt, put-node-reads.Asked, put-node-reads.Learnt, element-below t, element.Post)
+
+abbrev element-calls : ℕ → element-lts.Claims
+element-calls t = (digits-end-reads.Asked, digits-end-reads.Learnt, put-node-reads.Asked, put-node-reads.Learnt, value-below t, value.Post)
 
 abbrev object-calls : ℕ → object-lts.Claims
 object-calls t = (skip-blanks-reads.Asked, skip-blanks-reads.Learnt, put-node-reads.Asked, put-node-reads.Learnt, member-below t, member.Post)
@@ -128,8 +144,8 @@ module _ (t : ℕ) where
   array-loop-holds : array-lts.Need-loop-holds (array-calls t) (array-at t) array.Post array-Inv array-μ
   array-loop-holds c = search walks
 
-  array-value-requires : array-lts.Need-value-requires (array-calls t) (array-at t) array.Post array-Inv array-μ
-  array-value-requires c κs = search walks
+  array-element-requires : array-lts.Need-element-requires (array-calls t) (array-at t) array.Post array-Inv array-μ
+  array-element-requires c κs = search walks
 
   array-enum-known-r : array-lts.Need-enum-known-r (array-calls t) (array-at t) array.Post array-Inv array-μ
   array-enum-known-r c = search walks
@@ -141,7 +157,7 @@ module _ (t : ℕ) where
   array-returns-3 c = search walks
 
   array-skip-blanks-requires-2 : array-lts.Need-skip-blanks-requires-2 (array-calls t) (array-at t) array.Post array-Inv array-μ
-  array-skip-blanks-requires-2 c κs = element-high (c .before .before .before .before .before .before .before .loop .inv) _ (c .before .before .before .before .before .value .ensures) (c .before .r .given .1)
+  array-skip-blanks-requires-2 c κs = element-high (c .before .before .before .before .before .before .before .loop .inv) _ (c .before .before .before .before .before .element .ensures) (c .before .r .given .1)
 
   array-same-length-3 : array-lts.Need-same-length-3 (array-calls t) (array-at t) array.Post array-Inv array-μ
   array-same-length-3 c = search walks
@@ -156,7 +172,7 @@ module _ (t : ℕ) where
   array-add-put-node-3 c = search walks
 
   array-put-node-requires-2 : array-lts.Need-put-node-requires-2 (array-calls t) (array-at t) array.Post array-Inv array-μ
-  array-put-node-requires-2 c κs = array-fits (c .before .before .before .before .before .before .before .before .before .before .before .before .loop .inv) _ (c .before .before .before .before .before .before .before .before .before .before .value .ensures) (c .before .before .before .before .before .before .r .given .1) (c .before .before .before .before .skip-blanks2 .ensures) (omega arith)
+  array-put-node-requires-2 c κs = array-fits (c .before .before .before .before .before .before .before .before .before .before .before .before .loop .inv) _ (c .before .before .before .before .before .before .before .before .before .before .element .ensures) (c .before .before .before .before .before .before .r .given .1) (c .before .before .before .before .skip-blanks2 .ensures) (omega arith)
 
   array-add-t31 : array-lts.Need-add-t31 (array-calls t) (array-at t) array.Post array-Inv array-μ
   array-add-t31 c = search walks
@@ -181,6 +197,33 @@ module _ (t : ℕ) where
 
   array-loop-again : array-lts.Need-loop-again (array-calls t) (array-at t) array.Post array-Inv array-μ
   array-loop-again c = search walks
+
+  element-digits-end-requires : element-lts.Need-digits-end-requires (element-calls t) (element-at t) element.Post
+  element-digits-end-requires c κs = search walks
+
+  element-add-put-node : element-lts.Need-add-put-node (element-calls t) (element-at t) element.Post
+  element-add-put-node c = search walks
+
+  element-put-node-requires : element-lts.Need-put-node-requires (element-calls t) (element-at t) element.Post
+  element-put-node-requires c κs = search walks
+
+  element-add-t11 : element-lts.Need-add-t11 (element-calls t) (element-at t) element.Post
+  element-add-t11 c = search walks
+
+  element-same-length : element-lts.Need-same-length (element-calls t) (element-at t) element.Post
+  element-same-length c = search walks
+
+  element-returns : element-lts.Need-returns (element-calls t) (element-at t) element.Post
+  element-returns c = search walks
+
+  element-value-requires : element-lts.Need-value-requires (element-calls t) (element-at t) element.Post
+  element-value-requires c κs = search walks
+
+  element-same-length-2 : element-lts.Need-same-length-2 (element-calls t) (element-at t) element.Post
+  element-same-length-2 c = search walks
+
+  element-returns-2 : element-lts.Need-returns-2 (element-calls t) (element-at t) element.Post
+  element-returns-2 c = search walks
 
   member-member-name-requires : member-lts.Need-member-name-requires (member-calls t) (member-at t) member.Post
   member-member-name-requires c κs = search walks
@@ -350,11 +393,13 @@ module _ (t : ℕ) where
   value-returns-6 : value-lts.Need-returns-6 (value-calls t) (value-at t) value.Post
   value-returns-6 c = search walks
 
-pub +array+member+object+value-spec : {M : Type 1} → statement M
-+array+member+object+value-spec =
-    close μ-array μ-member μ-object μ-value
+pub +array+element+member+object+value-spec : {M : Type 1} → statement M
++array+element+member+object+value-spec =
+    close μ-array μ-element μ-member μ-object μ-value
     (λ t. array-lts.spec (array-calls t) (array-at t) array.Post array-Inv array-μ
-    (array-add-skip-blanks t) (array-skip-blanks-requires t) (array-returns t) (array-shared-slice-read-if2 t) (array-add-put-node t) (array-add-put-node-2 t) (array-put-node-requires t) (array-add-t20 t) (array-add-t21 t) (array-same-length t) (array-returns-2 t) (array-add-m t) (array-loop-holds t) (array-value-requires t) (array-enum-known-r t) (array-same-length-2 t) (array-returns-3 t) (array-skip-blanks-requires-2 t) (array-same-length-3 t) (array-returns-4 t) (array-shared-slice-read-b t) (array-add-put-node-3 t) (array-put-node-requires-2 t) (array-add-t31 t) (array-same-length-4 t) (array-returns-5 t) (array-same-length-5 t) (array-returns-6 t) (array-add-i t) (array-loop-less t) (array-loop-again t))
+    (array-add-skip-blanks t) (array-skip-blanks-requires t) (array-returns t) (array-shared-slice-read-if2 t) (array-add-put-node t) (array-add-put-node-2 t) (array-put-node-requires t) (array-add-t20 t) (array-add-t21 t) (array-same-length t) (array-returns-2 t) (array-add-m t) (array-loop-holds t) (array-element-requires t) (array-enum-known-r t) (array-same-length-2 t) (array-returns-3 t) (array-skip-blanks-requires-2 t) (array-same-length-3 t) (array-returns-4 t) (array-shared-slice-read-b t) (array-add-put-node-3 t) (array-put-node-requires-2 t) (array-add-t31 t) (array-same-length-4 t) (array-returns-5 t) (array-same-length-5 t) (array-returns-6 t) (array-add-i t) (array-loop-less t) (array-loop-again t))
+    (λ t. element-lts.spec (element-calls t) (element-at t) element.Post
+    (element-digits-end-requires t) (element-add-put-node t) (element-put-node-requires t) (element-add-t11 t) (element-same-length t) (element-returns t) (element-value-requires t) (element-same-length-2 t) (element-returns-2 t))
     (λ t. member-lts.spec (member-calls t) (member-at t) member.Post
     (member-member-name-requires t) (member-enum-known-s t) (member-enum-known-s-2 t) (member-add-value t) (member-value-requires t) (member-same-length t) (member-returns t) (member-same-length-2 t) (member-returns-2 t))
     (λ t. object-lts.spec (object-calls t) (object-at t) object.Post object-Inv object-μ
