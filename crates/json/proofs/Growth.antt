@@ -1,13 +1,11 @@
 -- Values and containers: what holds for every stack that the levels left allow, and the words that are written. Assumes nothing.
 use mathlib.Core.Path.{_≡_, refl, sym, _∙_}
-use mathlib.Core.Logic.{_⊎_, inl, inr}
 use mathlib.Core.List.{List, [], _∷_}
 use Prim.Native.Nat.{ℕ, _+_, _-_, _*_, _≤_, _<_}
 use native.Mathlib.Nat.{add-zero}
 use native.Mathlib.Omega.{arith}
 use lib.ListN.{length, getD}
 use lib.Dec.{T}
-use denote.Enum.Declared.{tagOf}
 use Rattle.json.specs.Tree.{Json, Items, _◂_, Members, with, Name}
 use Rattle.json.specs.Tree as tree
 use Rattle.json.specs.Machine.{Frame, array, object, Mode, step, go, dead, finish, bad, tooDeep, reads, read, isBlank}
@@ -22,13 +20,8 @@ use Rattle.json.specs.declared.Scan.the-variants as scan
 use Rattle.json.specs.declared.Walk.{Walk}
 use Rattle.json.specs.declared.Walk.the-variants as walk
 use Rattle.json.specs.declared.Parsed.the-variants as parsed
-use Rattle.json.proofs.Walk.{the-type}
 use Rattle.json.proofs.Moves.{at-end, moves, dies, deepens, alike, short, stays-none}
 use Rattle.json.proofs.Leaves.{words-of, atom-fits}
-
--- what the code knows in the else of `let Walk::Read(e, k) = r else { .. }`
-abbrev pub NoRead : Walk → Type 0
-NoRead r = (tagOf the-type r ≡ 1) ⊎ (tagOf the-type r ≡ 2)
 
 -- what the call told of a value that was read
 pub told-read : {x t₀ t : List ℕ} {m : Mode} {at levels most n e k : ℕ} (r : Walk) → Told x t₀ t m at levels most n r → r ≡ walk.Read e k → Read x t₀ t m at levels most n e k
@@ -197,13 +190,6 @@ module _ {b : ℕ} {m : Mode} {x t₀ t₁ : List ℕ} {at levels n i k : ℕ} {
     goes = λ ks z. l .goes ks z ∙ r .goes (f ks) (omega (arith, o ks));
   }
 
-  level-stuck : (r : Walk) → Told x t₁ t₂ want i levels 32 k r → NoRead r → Told x t₀ t₂ m (at + 1) levels 31 n r
-  unfolding Told
-  level-stuck (walk.Read e k′) h (inl z) = absurd (omega arith)
-  level-stuck (walk.Read e k′) h (inr z) = absurd (omega arith)
-  level-stuck (walk.Bad q) h d = λ ks z. l .goes ks z ∙ h (f ks) (omega (arith, o ks))
-  level-stuck (walk.Deep q) h d = λ ks z. l .goes ks z ∙ h (f ks) (omega (arith, o ks))
-
 -- an array: its next element is to come at i; or its last one was read, and the byte at i is no blank
 pub record Elements (x t₀ t : List ℕ) (at levels n i k : ℕ) : Type 0 where
   pub elements : Items
@@ -240,8 +226,14 @@ module _ {x t₀ t₁ : List ℕ} {at levels n i k : ℕ} (g : Elements x t₀ t
   pub element-asks : Ready x t₁ i levels 32 k
   element-asks = level-ready (g .level) (omega arith)
 
-  pub array-stuck : (t₂ : List ℕ) (r : Walk) → Told x t₁ t₂ want i levels 32 k r → NoRead r → Told x t₀ t₂ (first at) (at + 1) levels 31 n r
-  array-stuck t₂ r h d = level-stuck t₂ (g .level) (λ ks. omega arith) r h d
+  module _ {r : Walk} {p : ℕ} (t₂ : List ℕ) (h : Told x t₁ t₂ want i levels 32 k r) where
+    pub array-bad : r ≡ walk.Bad p → Told x t₀ t₂ (first at) (at + 1) levels 31 n (walk.Bad p)
+    unfolding Told
+    array-bad q = let f : Told x t₁ t₂ want i levels 32 k (walk.Bad p) = rw q at h in λ ks z. g .level .goes ks z ∙ f (array at (g .elements) ∷ ks) (omega arith)
+
+    pub array-deep : r ≡ walk.Deep p → Told x t₀ t₂ (first at) (at + 1) levels 31 n (walk.Deep p)
+    unfolding Told
+    array-deep q = let f : Told x t₁ t₂ want i levels 32 k (walk.Deep p) = rw q at h in λ ks z. g .level .goes ks z ∙ f (array at (g .elements) ∷ ks) (omega arith)
 
   module _ {r : Walk} {e k′ : ℕ} (t₂ : List ℕ) (h : Told x t₁ t₂ want i levels 32 k r) (q : r ≡ walk.Read e k′) where
     pub element-high : e ≤ length x
@@ -361,12 +353,14 @@ module _ {x t₀ t₁ : List ℕ} {at levels n i k : ℕ} (g : Fielded x t₀ t�
   pub name-asks : Ready x t₁ i levels 32 k
   name-asks = level-ready (g .level) (omega arith)
 
-  pub object-stuck : (t₂ : List ℕ) (r : Walk) → Member x t₁ t₂ i levels k r → NoRead r → Told x t₀ t₂ (name0 at) (at + 1) levels 31 n r
-  unfolding Told Member
-  object-stuck t₂ (walk.Read e k′) h (inl z) = absurd (omega arith)
-  object-stuck t₂ (walk.Read e k′) h (inr z) = absurd (omega arith)
-  object-stuck t₂ (walk.Bad q) h d = λ ks z. g .level .goes ks z ∙ h at (g .members) ks z
-  object-stuck t₂ (walk.Deep q) h d = λ ks z. g .level .goes ks z ∙ h at (g .members) ks z
+  module _ {r : Walk} {p : ℕ} (t₂ : List ℕ) (h : Member x t₁ t₂ i levels k r) where
+    pub object-bad : r ≡ walk.Bad p → Told x t₀ t₂ (name0 at) (at + 1) levels 31 n (walk.Bad p)
+    unfolding Told Member
+    object-bad q = let f : Member x t₁ t₂ i levels k (walk.Bad p) = rw q at h in λ ks z. g .level .goes ks z ∙ f at (g .members) ks z
+
+    pub object-deep : r ≡ walk.Deep p → Told x t₀ t₂ (name0 at) (at + 1) levels 31 n (walk.Deep p)
+    unfolding Told Member
+    object-deep q = let f : Member x t₁ t₂ i levels k (walk.Deep p) = rw q at h in λ ks z. g .level .goes ks z ∙ f at (g .members) ks z
 
   module _ {r : Walk} {e k′ : ℕ} (t₂ : List ℕ) (h : Member x t₁ t₂ i levels k r) (q : r ≡ walk.Read e k′) where
     pub member-high : e ≤ length x

@@ -23,7 +23,7 @@ use Rattle.json.specs.declared.Walk.the-variants as walk
 use Rattle.json.specs.Steps.{nought-else, want-quote, want-minus, want-0, want-digit, want-t, want-f, want-n, want-no, name-quote, name-no, colon-yes, colon-no}
 use Rattle.json.proofs.Bytes.{over-blank, is-digit, under-digit, over-digit}
 use Rattle.json.proofs.Moves.{moves, dies, short}
-use Rattle.json.proofs.Parts.{NoEnd, looks, int-digits, mant-done}
+use Rattle.json.proofs.Parts.{looks, int-digits, mant-done}
 
 -- three words are written at n
 pub three : (t₀ : List ℕ) (n u v w : ℕ) → n + 2 < length t₀ → Wrote t₀ (set (set (set t₀ n u) (n + 1) v) (n + 2) w) n u v w
@@ -186,13 +186,9 @@ module _ {x : List ℕ} {at i : ℕ} (k : Skips blanks isBlank x at i) where
   name-wrong t₀ t n l h = λ p ms ks. k .stays .same (name1 p ms) tt ks ∙ dies x (name1 p ms) ks i l (name-no 32 x i _ (k .stop l) h p ms ks)
 
   module _ {r : Scan} (l : i < length x) (b : getD x i 0 ≡ 34) (s : ReadsString x (i + 1) r) where
-    pub name-break : (t₀ t : List ℕ) (n : ℕ) → NoEnd r → Names x t₀ t at n r
+    pub name-break : (t₀ t : List ℕ) (n q : ℕ) → r ≡ Bad q → Names x t₀ t at n (Bad q)
     unfolding Names charsOf
-    name-break t₀ t n h = stuck r h s
-      where
-        stuck : (r : Scan) → NoEnd r → ReadsString x (i + 1) r → Names x t₀ t at n r
-        stuck (End e) h s = absurd (omega arith)
-        stuck (Bad q) h s = λ p ms ks. k .stays .same (name1 p ms) tt ks ∙ moves x (name1 p ms) ks i (chars (name p ms) i) ks l (name-quote 32 x i _ b p ms ks) ∙ s .reads .same (record { role = name p ms; begun = i }) ks
+    name-break t₀ t n q e = λ p ms ks. k .stays .same (name1 p ms) tt ks ∙ moves x (name1 p ms) ks i (chars (name p ms) i) ks l (name-quote 32 x i _ b p ms ks) ∙ (rw e at (s .reads .same (record { role = name p ms; begun = i }) ks))
 
     module _ {e : ℕ} (q : r ≡ End e) where
       called : (p : ℕ) (ms : Members) (ks : List Frame) → from x (name1 p ms) ks at ≡ from x (colon p ms (record { place = i; end = e; raw = slice (i + 1) (e - 1) x })) ks e

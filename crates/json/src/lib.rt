@@ -370,18 +370,20 @@ fn member_name(text: &[u8], at: usize, table: &mut [u32], n: usize) -> Scan
         return Scan::Bad(i);
     }
     let r = string(text, i + 1);
-    let Scan::End(e) = r else {
-        return r;
-    };
-    put_node(table, n, i, e, n + 3);
-    let j = skip_blanks(text, e);
-    if j >= text.len() {
-        return Scan::Bad(j);
+    match r {
+        Scan::Bad(q) => Scan::Bad(q),
+        Scan::End(e) => {
+            put_node(table, n, i, e, n + 3);
+            let j = skip_blanks(text, e);
+            if j >= text.len() {
+                return Scan::Bad(j);
+            }
+            if text[j] != b':' {
+                return Scan::Bad(j);
+            }
+            Scan::End(j + 1)
+        }
     }
-    if text[j] != b':' {
-        return Scan::Bad(j);
-    }
-    Scan::End(j + 1)
 }
 
 // A value, where so many levels may still be opened, and its words from n on.
@@ -438,23 +440,30 @@ fn array(text: &[u8], at: usize, levels: usize, table: &mut [u32], n: usize) -> 
     let mut m = n + 3;
     loop {
         let r = element(text, i, levels, table, m);
-        let Walk::Read(e, k) = r else {
-            return r;
-        };
-        let j = skip_blanks(text, e);
-        if j >= text.len() {
-            return Walk::Bad(j);
+        match r {
+            Walk::Bad(q) => {
+                return Walk::Bad(q);
+            }
+            Walk::Deep(q) => {
+                return Walk::Deep(q);
+            }
+            Walk::Read(e, k) => {
+                let j = skip_blanks(text, e);
+                if j >= text.len() {
+                    return Walk::Bad(j);
+                }
+                let b = text[j];
+                if b == b']' {
+                    put_node(table, n, at, j + 1, k);
+                    return Walk::Read(j + 1, k);
+                }
+                if b != b',' {
+                    return Walk::Bad(j);
+                }
+                i = j + 1;
+                m = k;
+            }
         }
-        let b = text[j];
-        if b == b']' {
-            put_node(table, n, at, j + 1, k);
-            return Walk::Read(j + 1, k);
-        }
-        if b != b',' {
-            return Walk::Bad(j);
-        }
-        i = j + 1;
-        m = k;
     }
 }
 
@@ -474,23 +483,30 @@ fn object(text: &[u8], at: usize, levels: usize, table: &mut [u32], n: usize) ->
     let mut m = n + 3;
     loop {
         let r = member(text, i, levels, table, m);
-        let Walk::Read(e, k) = r else {
-            return r;
-        };
-        let j = skip_blanks(text, e);
-        if j >= text.len() {
-            return Walk::Bad(j);
+        match r {
+            Walk::Bad(q) => {
+                return Walk::Bad(q);
+            }
+            Walk::Deep(q) => {
+                return Walk::Deep(q);
+            }
+            Walk::Read(e, k) => {
+                let j = skip_blanks(text, e);
+                if j >= text.len() {
+                    return Walk::Bad(j);
+                }
+                let b = text[j];
+                if b == b'}' {
+                    put_node(table, n, at, j + 1, k);
+                    return Walk::Read(j + 1, k);
+                }
+                if b != b',' {
+                    return Walk::Bad(j);
+                }
+                i = j + 1;
+                m = k;
+            }
         }
-        let b = text[j];
-        if b == b'}' {
-            put_node(table, n, at, j + 1, k);
-            return Walk::Read(j + 1, k);
-        }
-        if b != b',' {
-            return Walk::Bad(j);
-        }
-        i = j + 1;
-        m = k;
     }
 }
 

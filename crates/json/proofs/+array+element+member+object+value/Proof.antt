@@ -126,11 +126,11 @@ module _ (t : ℕ) where
   array-put-node-requires : array-lts.Need-put-node-requires (array-calls t) (array-at t) array.Post array-Inv array-μ
   array-put-node-requires c κs = search walks
 
-  array-add-t20 : array-lts.Need-add-t20 (array-calls t) (array-at t) array.Post array-Inv array-μ
-  array-add-t20 c = search walks
+  array-add-t22 : array-lts.Need-add-t22 (array-calls t) (array-at t) array.Post array-Inv array-μ
+  array-add-t22 c = search walks
 
-  array-add-t21 : array-lts.Need-add-t21 (array-calls t) (array-at t) array.Post array-Inv array-μ
-  array-add-t21 c = search walks
+  array-add-t23 : array-lts.Need-add-t23 (array-calls t) (array-at t) array.Post array-Inv array-μ
+  array-add-t23 c = search walks
 
   array-same-length : array-lts.Need-same-length (array-calls t) (array-at t) array.Post array-Inv array-μ
   array-same-length c = search walks
@@ -156,14 +156,26 @@ module _ (t : ℕ) where
   array-returns-3 : array-lts.Need-returns-3 (array-calls t) (array-at t) array.Post array-Inv array-μ
   array-returns-3 c = search walks
 
-  array-skip-blanks-requires-2 : array-lts.Need-skip-blanks-requires-2 (array-calls t) (array-at t) array.Post array-Inv array-μ
-  array-skip-blanks-requires-2 c κs = element-high (c .before .before .before .before .before .before .before .loop .inv) _ (c .before .before .before .before .before .element .ensures) (c .before .r .given .1)
+  array-enum-known-r-2 : array-lts.Need-enum-known-r-2 (array-calls t) (array-at t) array.Post array-Inv array-μ
+  array-enum-known-r-2 c = search walks
 
   array-same-length-3 : array-lts.Need-same-length-3 (array-calls t) (array-at t) array.Post array-Inv array-μ
   array-same-length-3 c = search walks
 
   array-returns-4 : array-lts.Need-returns-4 (array-calls t) (array-at t) array.Post array-Inv array-μ
   array-returns-4 c = search walks
+
+  array-enum-known-r-3 : array-lts.Need-enum-known-r-3 (array-calls t) (array-at t) array.Post array-Inv array-μ
+  array-enum-known-r-3 c = search walks
+
+  array-skip-blanks-requires-2 : array-lts.Need-skip-blanks-requires-2 (array-calls t) (array-at t) array.Post array-Inv array-μ
+  array-skip-blanks-requires-2 c κs = element-high (c .before .before .before .before .before .before .before .loop .inv) _ (c .before .before .before .before .before .element .ensures) (c .before .r3 .given .1)
+
+  array-same-length-4 : array-lts.Need-same-length-4 (array-calls t) (array-at t) array.Post array-Inv array-μ
+  array-same-length-4 c = search walks
+
+  array-returns-5 : array-lts.Need-returns-5 (array-calls t) (array-at t) array.Post array-Inv array-μ
+  array-returns-5 c = search walks
 
   array-shared-slice-read-b : array-lts.Need-shared-slice-read-b (array-calls t) (array-at t) array.Post array-Inv array-μ
   array-shared-slice-read-b c = search walks
@@ -172,22 +184,22 @@ module _ (t : ℕ) where
   array-add-put-node-3 c = search walks
 
   array-put-node-requires-2 : array-lts.Need-put-node-requires-2 (array-calls t) (array-at t) array.Post array-Inv array-μ
-  array-put-node-requires-2 c κs = array-fits (c .before .before .before .before .before .before .before .before .before .before .before .before .loop .inv) _ (c .before .before .before .before .before .before .before .before .before .before .element .ensures) (c .before .before .before .before .before .before .r .given .1) (c .before .before .before .before .skip-blanks2 .ensures) (omega arith)
+  array-put-node-requires-2 c κs = array-fits (c .before .before .before .before .before .before .before .before .before .before .before .before .loop .inv) _ (c .before .before .before .before .before .before .before .before .before .before .element .ensures) (c .before .before .before .before .before .before .r3 .given .1) (c .before .before .before .before .skip-blanks2 .ensures) (omega arith)
 
-  array-add-t31 : array-lts.Need-add-t31 (array-calls t) (array-at t) array.Post array-Inv array-μ
-  array-add-t31 c = search walks
-
-  array-same-length-4 : array-lts.Need-same-length-4 (array-calls t) (array-at t) array.Post array-Inv array-μ
-  array-same-length-4 c = search walks
-
-  array-returns-5 : array-lts.Need-returns-5 (array-calls t) (array-at t) array.Post array-Inv array-μ
-  array-returns-5 c = search walks
+  array-add-t33 : array-lts.Need-add-t33 (array-calls t) (array-at t) array.Post array-Inv array-μ
+  array-add-t33 c = search walks
 
   array-same-length-5 : array-lts.Need-same-length-5 (array-calls t) (array-at t) array.Post array-Inv array-μ
   array-same-length-5 c = search walks
 
   array-returns-6 : array-lts.Need-returns-6 (array-calls t) (array-at t) array.Post array-Inv array-μ
   array-returns-6 c = search walks
+
+  array-same-length-6 : array-lts.Need-same-length-6 (array-calls t) (array-at t) array.Post array-Inv array-μ
+  array-same-length-6 c = search walks
+
+  array-returns-7 : array-lts.Need-returns-7 (array-calls t) (array-at t) array.Post array-Inv array-μ
+  array-returns-7 c = search walks
 
   array-add-i : array-lts.Need-add-i (array-calls t) (array-at t) array.Post array-Inv array-μ
   array-add-i c = search walks
@@ -273,11 +285,11 @@ module _ (t : ℕ) where
   object-put-node-requires : object-lts.Need-put-node-requires (object-calls t) (object-at t) object.Post object-Inv object-μ
   object-put-node-requires c κs = search walks
 
-  object-add-t20 : object-lts.Need-add-t20 (object-calls t) (object-at t) object.Post object-Inv object-μ
-  object-add-t20 c = search walks
+  object-add-t22 : object-lts.Need-add-t22 (object-calls t) (object-at t) object.Post object-Inv object-μ
+  object-add-t22 c = search walks
 
-  object-add-t21 : object-lts.Need-add-t21 (object-calls t) (object-at t) object.Post object-Inv object-μ
-  object-add-t21 c = search walks
+  object-add-t23 : object-lts.Need-add-t23 (object-calls t) (object-at t) object.Post object-Inv object-μ
+  object-add-t23 c = search walks
 
   object-same-length : object-lts.Need-same-length (object-calls t) (object-at t) object.Post object-Inv object-μ
   object-same-length c = search walks
@@ -303,14 +315,26 @@ module _ (t : ℕ) where
   object-returns-3 : object-lts.Need-returns-3 (object-calls t) (object-at t) object.Post object-Inv object-μ
   object-returns-3 c = search walks
 
-  object-skip-blanks-requires-2 : object-lts.Need-skip-blanks-requires-2 (object-calls t) (object-at t) object.Post object-Inv object-μ
-  object-skip-blanks-requires-2 c κs = member-high (c .before .before .before .before .before .before .before .loop .inv) _ (c .before .before .before .before .before .member .ensures) (c .before .r .given .1)
+  object-enum-known-r-2 : object-lts.Need-enum-known-r-2 (object-calls t) (object-at t) object.Post object-Inv object-μ
+  object-enum-known-r-2 c = search walks
 
   object-same-length-3 : object-lts.Need-same-length-3 (object-calls t) (object-at t) object.Post object-Inv object-μ
   object-same-length-3 c = search walks
 
   object-returns-4 : object-lts.Need-returns-4 (object-calls t) (object-at t) object.Post object-Inv object-μ
   object-returns-4 c = search walks
+
+  object-enum-known-r-3 : object-lts.Need-enum-known-r-3 (object-calls t) (object-at t) object.Post object-Inv object-μ
+  object-enum-known-r-3 c = search walks
+
+  object-skip-blanks-requires-2 : object-lts.Need-skip-blanks-requires-2 (object-calls t) (object-at t) object.Post object-Inv object-μ
+  object-skip-blanks-requires-2 c κs = member-high (c .before .before .before .before .before .before .before .loop .inv) _ (c .before .before .before .before .before .member .ensures) (c .before .r3 .given .1)
+
+  object-same-length-4 : object-lts.Need-same-length-4 (object-calls t) (object-at t) object.Post object-Inv object-μ
+  object-same-length-4 c = search walks
+
+  object-returns-5 : object-lts.Need-returns-5 (object-calls t) (object-at t) object.Post object-Inv object-μ
+  object-returns-5 c = search walks
 
   object-shared-slice-read-b : object-lts.Need-shared-slice-read-b (object-calls t) (object-at t) object.Post object-Inv object-μ
   object-shared-slice-read-b c = search walks
@@ -319,22 +343,22 @@ module _ (t : ℕ) where
   object-add-put-node-3 c = search walks
 
   object-put-node-requires-2 : object-lts.Need-put-node-requires-2 (object-calls t) (object-at t) object.Post object-Inv object-μ
-  object-put-node-requires-2 c κs = object-fits (c .before .before .before .before .before .before .before .before .before .before .before .before .loop .inv) _ (c .before .before .before .before .before .before .before .before .before .before .member .ensures) (c .before .before .before .before .before .before .r .given .1) (c .before .before .before .before .skip-blanks2 .ensures) (omega arith)
+  object-put-node-requires-2 c κs = object-fits (c .before .before .before .before .before .before .before .before .before .before .before .before .loop .inv) _ (c .before .before .before .before .before .before .before .before .before .before .member .ensures) (c .before .before .before .before .before .before .r3 .given .1) (c .before .before .before .before .skip-blanks2 .ensures) (omega arith)
 
-  object-add-t31 : object-lts.Need-add-t31 (object-calls t) (object-at t) object.Post object-Inv object-μ
-  object-add-t31 c = search walks
-
-  object-same-length-4 : object-lts.Need-same-length-4 (object-calls t) (object-at t) object.Post object-Inv object-μ
-  object-same-length-4 c = search walks
-
-  object-returns-5 : object-lts.Need-returns-5 (object-calls t) (object-at t) object.Post object-Inv object-μ
-  object-returns-5 c = search walks
+  object-add-t33 : object-lts.Need-add-t33 (object-calls t) (object-at t) object.Post object-Inv object-μ
+  object-add-t33 c = search walks
 
   object-same-length-5 : object-lts.Need-same-length-5 (object-calls t) (object-at t) object.Post object-Inv object-μ
   object-same-length-5 c = search walks
 
   object-returns-6 : object-lts.Need-returns-6 (object-calls t) (object-at t) object.Post object-Inv object-μ
   object-returns-6 c = search walks
+
+  object-same-length-6 : object-lts.Need-same-length-6 (object-calls t) (object-at t) object.Post object-Inv object-μ
+  object-same-length-6 c = search walks
+
+  object-returns-7 : object-lts.Need-returns-7 (object-calls t) (object-at t) object.Post object-Inv object-μ
+  object-returns-7 c = search walks
 
   object-add-i : object-lts.Need-add-i (object-calls t) (object-at t) object.Post object-Inv object-μ
   object-add-i c = search walks
@@ -397,12 +421,12 @@ pub +array+element+member+object+value-spec : {M : Type 1} → statement M
 +array+element+member+object+value-spec =
     close μ-array μ-element μ-member μ-object μ-value
     (λ t. array-lts.spec (array-calls t) (array-at t) array.Post array-Inv array-μ
-    (array-add-skip-blanks t) (array-skip-blanks-requires t) (array-returns t) (array-shared-slice-read-if2 t) (array-add-put-node t) (array-add-put-node-2 t) (array-put-node-requires t) (array-add-t20 t) (array-add-t21 t) (array-same-length t) (array-returns-2 t) (array-add-m t) (array-loop-holds t) (array-element-requires t) (array-enum-known-r t) (array-same-length-2 t) (array-returns-3 t) (array-skip-blanks-requires-2 t) (array-same-length-3 t) (array-returns-4 t) (array-shared-slice-read-b t) (array-add-put-node-3 t) (array-put-node-requires-2 t) (array-add-t31 t) (array-same-length-4 t) (array-returns-5 t) (array-same-length-5 t) (array-returns-6 t) (array-add-i t) (array-loop-less t) (array-loop-again t))
+    (array-add-skip-blanks t) (array-skip-blanks-requires t) (array-returns t) (array-shared-slice-read-if2 t) (array-add-put-node t) (array-add-put-node-2 t) (array-put-node-requires t) (array-add-t22 t) (array-add-t23 t) (array-same-length t) (array-returns-2 t) (array-add-m t) (array-loop-holds t) (array-element-requires t) (array-enum-known-r t) (array-same-length-2 t) (array-returns-3 t) (array-enum-known-r-2 t) (array-same-length-3 t) (array-returns-4 t) (array-enum-known-r-3 t) (array-skip-blanks-requires-2 t) (array-same-length-4 t) (array-returns-5 t) (array-shared-slice-read-b t) (array-add-put-node-3 t) (array-put-node-requires-2 t) (array-add-t33 t) (array-same-length-5 t) (array-returns-6 t) (array-same-length-6 t) (array-returns-7 t) (array-add-i t) (array-loop-less t) (array-loop-again t))
     (λ t. element-lts.spec (element-calls t) (element-at t) element.Post
     (element-digits-end-requires t) (element-add-put-node t) (element-put-node-requires t) (element-add-t11 t) (element-same-length t) (element-returns t) (element-value-requires t) (element-same-length-2 t) (element-returns-2 t))
     (λ t. member-lts.spec (member-calls t) (member-at t) member.Post
     (member-member-name-requires t) (member-enum-known-s t) (member-enum-known-s-2 t) (member-add-value t) (member-value-requires t) (member-same-length t) (member-returns t) (member-same-length-2 t) (member-returns-2 t))
     (λ t. object-lts.spec (object-calls t) (object-at t) object.Post object-Inv object-μ
-    (object-add-skip-blanks t) (object-skip-blanks-requires t) (object-returns t) (object-shared-slice-read-if2 t) (object-add-put-node t) (object-add-put-node-2 t) (object-put-node-requires t) (object-add-t20 t) (object-add-t21 t) (object-same-length t) (object-returns-2 t) (object-add-m t) (object-loop-holds t) (object-member-requires t) (object-enum-known-r t) (object-same-length-2 t) (object-returns-3 t) (object-skip-blanks-requires-2 t) (object-same-length-3 t) (object-returns-4 t) (object-shared-slice-read-b t) (object-add-put-node-3 t) (object-put-node-requires-2 t) (object-add-t31 t) (object-same-length-4 t) (object-returns-5 t) (object-same-length-5 t) (object-returns-6 t) (object-add-i t) (object-loop-less t) (object-loop-again t))
+    (object-add-skip-blanks t) (object-skip-blanks-requires t) (object-returns t) (object-shared-slice-read-if2 t) (object-add-put-node t) (object-add-put-node-2 t) (object-put-node-requires t) (object-add-t22 t) (object-add-t23 t) (object-same-length t) (object-returns-2 t) (object-add-m t) (object-loop-holds t) (object-member-requires t) (object-enum-known-r t) (object-same-length-2 t) (object-returns-3 t) (object-enum-known-r-2 t) (object-same-length-3 t) (object-returns-4 t) (object-enum-known-r-3 t) (object-skip-blanks-requires-2 t) (object-same-length-4 t) (object-returns-5 t) (object-shared-slice-read-b t) (object-add-put-node-3 t) (object-put-node-requires-2 t) (object-add-t33 t) (object-same-length-5 t) (object-returns-6 t) (object-same-length-6 t) (object-returns-7 t) (object-add-i t) (object-loop-less t) (object-loop-again t))
     (λ t. value-lts.spec (value-calls t) (value-at t) value.Post
     (value-skip-blanks-requires t) (value-returns t) (value-shared-slice-read-b t) (value-returns-2 t) (value-sub-array t) (value-array-requires t) (value-same-length t) (value-returns-3 t) (value-returns-4 t) (value-sub-object t) (value-object-requires t) (value-same-length-2 t) (value-returns-5 t) (value-atom-requires t) (value-same-length-3 t) (value-returns-6 t))
