@@ -2,8 +2,8 @@
 use Prim.Native.Nat.{ℕ, zero, suc, _+_, _-_, _≤_, _<_}
 use native.Mathlib.Omega.{arith}
 use mathlib.Core.Path.{_≡_, refl, sym, ap, _∙_, subst}
-use mathlib.Core.Bool.{Bool, true, false}
-use mathlib.Core.List.{List, _++_}
+use mathlib.Core.Bool.{Bool, true, false, not}
+use mathlib.Core.List.{List, [], _++_, append-nil}
 use mathlib.Core.Option.{Option, some}
 use mathlib.Core.Option as option
 use lib.ListN.{length, getD}
@@ -13,6 +13,7 @@ use mir.Syntax.{w64}
 use mir.Val.{toZ, ofZ}
 use mir.Facts.{toZ-ofZ}
 use borrow.Author.Needs.{sfits-of}
+use borrow.Author.Tests.{not-true}
 use Rattle.numerals.specs.Numerals.{Decimal, pairOf, integer, fits32}
 use Rattle.numerals.specs.Reading.{pairIn, IsWhole}
 use Rattle.numerals.specs.declared.Numeral.{Numeral}
@@ -21,15 +22,15 @@ use Rattle.numerals.specs.declared.Whole.{Whole}
 use Rattle.json.specs.Tree.{Json}
 use Rattle.json.specs.Table.{Sub}
 use Rattle.json.specs.Laws.{words}
-use Rattle.nodes.specs.Access.{isNullValue, isNumberValue, elements, numeralOf}
+use Rattle.nodes.specs.Access.{isNullValue, isNumberValue, isArrayValue, elements, numeralOf}
 use Rattle.nodes.specs.Says.{Node, Gives}
-use Rattle.nodes.specs.Laws.{NumeralAt, numeral-at}
+use Rattle.nodes.specs.Laws.{NumeralAt, numeral-at, no-elements}
 use Rattle.model.specs.Code.{le, signed, each}
 use Rattle.model.specs.Model.{layThree, layDecimal, layNest, layValue, layValues}
 use Rattle.model.specs.Read.{zeroIfNone, decimalOf, integerOf, indexOf, valueOf, threeOf, nestOf}
 use Rattle.model.specs.Weigh.{decimal-fits}
-use Rattle.writer.specs.Writes.{Writes, twos}
-use Rattle.writer.specs.Laws.{then, wrote-signed}
+use Rattle.writer.specs.Writes.{Writes, Skips, twos}
+use Rattle.writer.specs.Laws.{then, as-bytes, numbered, wrote-signed}
 use Rattle.arrays.specs.Fits.{Pair, Coordinate, Index, Value, Elements, Triple, Leaves}
 use Rattle.arrays.specs.Says.{Holds, Wrote}
 use Rattle.arrays.specs.Laws.{holds-as, wrote-as, wrote-then, wrote-told}
@@ -167,9 +168,15 @@ module _ {x t : List ℕ} {i : ℕ} where
     unfolding layValues nestOf
     values-leaf e w = rw e w
 
-  pub nest-array : (depth : ℕ) {n : ℕ} {d₀ d₁ d₂ : List ℕ} {to q r : ℕ} → (depth ≡ 0 → ⊥) → Gives (λ v. length (elements v)) x t i n → Writes (le 4 n) d₀ d₁ to q
-      → Wrote (λ v. each (λ w. layNest (depth - 1) (nestOf indexOf (depth - 1) w)) (elements v)) x t i d₁ d₂ q r → Wrote (λ v. layNest depth (nestOf indexOf depth v)) x t i d₀ d₂ to r
-  nest-array depth h g u w = wrote-as (λ v s. nest-suc depth h v) (wrote-then (wrote-told (le 4) g u) w)
+  pub nest-none : (depth : ℕ) {b : Bool} {d₀ d : List ℕ} {to r : ℕ} → (depth ≡ 0 → ⊥) → Gives isArrayValue x t i b → not b ≡ true → Writes (le 4 0) d₀ d to r → Wrote (λ v. layNest depth (nestOf indexOf depth v)) x t i d₀ d to r
+  unfolding each
+  nest-none depth {b} h g e w =
+      wrote-as (λ v s. nest-suc depth h v) (record { is = λ v s. let z : elements v ≡ [] = no-elements v (sym (g .is v s) ∙ not-true b e) in rw (z, append-nil (le 4 0)) w })
+
+  pub nest-array : (depth : ℕ) {n body q : ℕ} {d₀ d₁ d₂ : List ℕ} {to r : ℕ} → (depth ≡ 0 → ⊥) → Gives (λ v. length (elements v)) x t i n → Skips 4 to body → Wrote (λ v. each (λ w. layNest (depth - 1) (nestOf indexOf (depth - 1) w)) (elements v)) x t i d₀ d₁ body r
+      → Writes (le 4 n) d₁ d₂ to q → Wrote (λ v. layNest depth (nestOf indexOf depth v)) x t i d₀ d₂ to r
+  nest-array depth h g k w u =
+      wrote-as (λ v s. nest-suc depth h v) (record { is = λ v s. as-bytes (ap (λ n. le 4 n ++ each (λ w. layNest (depth - 1) (nestOf indexOf (depth - 1) w)) (elements v)) (g .is v s)) (numbered _ k (w .is v s) u) })
 
   pub values-array : (depth : ℕ) {d₀ d : List ℕ} {to r : ℕ} → (depth ≡ 0 → ⊥) → Wrote (λ v. each (λ w. layValues (depth - 1) (nestOf valueOf (depth - 1) w)) (elements v)) x t i d₀ d to r → Wrote (λ v. layValues depth (nestOf valueOf depth v)) x t i d₀ d to r
   values-array depth h w = wrote-as (λ v s. values-suc depth h v) w

@@ -94,7 +94,7 @@ fn index(text: &[u8], table: &[u32], i: usize, sheet: &mut [u8], at: usize) -> u
     writer::put4(sheet, at, w.magnitude)
 }
 
-// A boundary of that depth: each array as its count and its elements.
+// A boundary of that depth: each array as its count and its elements. The count is written last, at the place that was kept for it.
 pub fn boundary(
     text: &[u8],
     table: &[u32],
@@ -109,18 +109,20 @@ pub fn boundary(
     if depth == 0 {
         return index(text, table, i, sheet, at);
     }
-    let count = nodes::count(text, table, i);
-    let first = writer::put4(sheet, at, count as u64);
     if !nodes::is_array(text, table, i) {
-        return first;
+        return writer::put4(sheet, at, 0);
     }
     let n = nodes::next(table, i);
+    let first = writer::skip(at, 4);
+    let mut count: u64 = 0;
     let mut o = first;
     let mut k = i + 3;
     while k < n {
         o = boundary(text, table, k, depth - 1, sheet, o);
+        count += 1;
         k = nodes::next(table, k);
     }
+    writer::put4(sheet, at, count);
     o
 }
 

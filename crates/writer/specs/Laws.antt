@@ -51,6 +51,24 @@ then {a} {b} {d₀} {d₁} {d₂} {to} {q} {r} f g =
 pub as-bytes : {a b d₀ d : List ℕ} {to r : ℕ} → a ≡ b → Writes a d₀ d to r → Writes b d₀ d to r
 as-bytes e w = rw e at w
 
+-- a number before bytes that stand there already
+pub numbered : (n : ℕ) {at body end q : ℕ} {ws d₀ d₁ d₂ : List ℕ} → Skips 4 at body → Writes ws d₀ d₁ body end → Writes (le 4 n) d₁ d₂ at q → Writes (le 4 n ++ ws) d₀ d₂ at end
+numbered n {at} {body} {end} {q} {ws} {d₀} {d₁} {d₂} s p w =
+    let four = length-le 4 n in
+    let all = length-append (le 4 n) ws in
+    record {
+      ends = omega (arith, s .ends, p .ends);
+      onward = omega (arith, s .onward, p .onward);
+      room = w .room ∙ p .room;
+      wrote = λ fits low.
+          let here : body ≡ at + length (le 4 n) = omega (arith, s .ends) in
+          w .wrote (omega (arith, p .room)) (omega arith)
+          ∙ ap (λ l. sets l at (le 4 n)) (p .wrote (omega arith) (omega arith))
+          ∙ sets-before d₀ body at (le 4 n) ws (omega arith)
+          ∙ ap (λ i. sets (sets d₀ at (le 4 n)) i ws) here
+          ∙ sym (sets-append d₀ at (le 4 n) ws);
+    }
+
 -- a header before a payload that stands there already
 pub headed : {kind at body end q r : ℕ} {d d₁ d₂ : List ℕ} → Skips 6 at body → body ≤ end
     → Writes (le 4 (end - body)) d d₁ at q → Writes (le 2 kind) d₁ d₂ q r → Closes kind at body end d d₂
