@@ -13,12 +13,11 @@ use Rattle.utf8.specs.Utf8.{same}
 use Rattle.grid.specs.Grid.{holds}
 use Rattle.json.specs.Tree.{Json}
 use Rattle.json.specs.Table.{Sub}
-use Rattle.json.specs.Laws.{Left, Past, past, over, ended}
 use Rattle.model.specs.Model.{numberOf}
-use Rattle.nodes.specs.Access.{isStringValue, isArrayValue, textOf, listed, elements, Member, firstNamed}
+use Rattle.nodes.specs.Access.{isStringValue, isArrayValue, textOf, elements, Member, firstNamed}
 use Rattle.nodes.specs.Everywhere.{among}
 use Rattle.nodes.specs.Faults.{least}
-use Rattle.nodes.specs.Laws.{elements-begin, no-elements, least-++}
+use Rattle.nodes.specs.Laws.{no-elements, least-++}
 use Rattle.nodes.specs.Parts.{textAt}
 use Rattle.nodes.specs.Says.{Node, Gives, GivesFound}
 use Rattle.nodes.specs.declared.Found.{Found}
@@ -33,6 +32,7 @@ use Rattle.links.specs.Says.{seen, Row, RowsTo, OpenGives, OpensGive}
 use Rattle.links.proofs.Marks.{among-marks, named-number}
 use Rattle.links.proofs.Marking.{count-names, named, string-at-node}
 use Rattle.links.proofs.Split.{excused-none}
+use Rattle.links.proofs.Walk.{Walking, walk-begin, walk-turn, walk-done}
 
 -- ---- the order in which IDs were listed does not matter
 
@@ -126,42 +126,26 @@ unfolding openIn
 open-cons b ms back id v vs = least-++ b (openAt ms back id false v) (openIn ms back id false vs)
 
 -- the faults of `all` are those of what is left
-record Rests (x t offsets : List ℕ) (count own best acc : ℕ) (g : List ℕ) (all left : List Json) : Type 0 where
-  of : (ms : List Member) → Offsets x t ms offsets count → (back : String) → RowsTo ms back g count → (id : List ℕ) → own ≡ numberOf (namesOf ms) id → least acc (openIn ms back id false left) ≡ least best (openIn ms back id false all)
+pub record Rests (x t offsets : List ℕ) (count own best acc : ℕ) (g : List ℕ) (all left : List Json) : Type 0 where
+  pub of : (ms : List Member) → Offsets x t ms offsets count → (back : String) → RowsTo ms back g count → (id : List ℕ) → own ≡ numberOf (namesOf ms) id → least acc (openIn ms back id false left) ≡ least best (openIn ms back id false all)
 
 -- what the loop over the values of the list at the node i knows where it has come to the node k, with the least fault acc
 pub record Answering (x t offsets : List ℕ) (count own i best n k acc : ℕ) (g : List ℕ) : Type 0 where
-  pub node : Node x t i
-  left : (v : Json) → Sub x t i v → Left x t k n (λ vs. Rests x t offsets count own best acc g (elements v) (listed vs))
+  pub walk : Walking x t i n k (Rests x t offsets count own best acc g)
 
 module _ {x t offsets : List ℕ} {count own i : ℕ} {g : List ℕ} where
   pub answering-begin : (best : ℕ) {n : ℕ} {b : Bool} → Node x t i → Gives isArrayValue x t i b → not b ≡ false → n ≡ getD t (i + 2) 0 → Answering x t offsets count own i best n (i + 3) best g
-  answering-begin best {n} {b} d a h q = record { node = d; left = λ v s. rw q (elements-begin (λ l. Rests x t offsets count own best best g (elements v) l) s (sym (a .is v s) ∙ not-false b h) (record { of = λ ms o back r id e. refl })) }
+  answering-begin best d a h q = record { walk = walk-begin (Rests x t offsets count own best best g) d a h q (λ l. record { of = λ ms o back r id e. refl }) }
 
   module _ {best n k acc : ℕ} (p : Answering x t offsets count own i best n k acc g) where
-    module _ (l : k < n) where
-      present : Past x t k n (λ vs. Rests x t offsets count own best acc g (elements (p .node .value)) (listed vs))
-      present = past (p .left (p .node .value) (p .node .stands)) l
-
-      pub answering-node : Node x t k
-      answering-node = let u = present in record { value = u .value; stands = u .stands; short = p .node .short }
-
-      pub answering-next : k + 2 < length t
-      answering-next = present .word .room
-
-      pub answering-less : {m : ℕ} → m ≡ getD t (k + 2) 0 → n - m < n - k
-      answering-less q = let u = present in omega (arith, u .more, u .within)
-
-      pub answering-turn : {m acc′ : ℕ} → OpenGives x t offsets count own k g acc acc′ → m ≡ getD t (k + 2) 0 → Answering x t offsets count own i best n m acc′ g
-      unfolding listed
-      answering-turn {m} {acc′} e q = record { node = p .node; left = λ v s. rw q (on v (past (p .left v s) l)) }
-        where
-          on : (v : Json) → Past x t k n (λ vs. Rests x t offsets count own best acc g (elements v) (listed vs)) → Left x t (getD t (k + 2) 0) n (λ vs. Rests x t offsets count own best acc′ g (elements v) (listed vs))
-          on v u = over u (record { of = λ ms o back r id z. rw (e .is ms o back r id z .is (u .value) (u .stands)) (sym (open-cons acc ms back id (u .value) (listed (u .others))) ∙ u .holds .of ms o back r id z) })
+    pub answering-turn : {m acc′ : ℕ} → k < n → OpenGives x t offsets count own k g acc acc′ → m ≡ getD t (k + 2) 0 → Answering x t offsets count own i best n m acc′ g
+    answering-turn {m} {acc′} l e q = record {
+      walk = walk-turn (p .walk) l (Rests x t offsets count own best acc′ g) q (λ all v vs s u. record { of = λ ms o back r id z. rw (e .is ms o back r id z .is v s) (sym (open-cons acc ms back id v vs) ∙ u .of ms o back r id z) });
+    }
 
     pub answered : {found : Found} {excused : Bool} → excused ≡ false → found ≡ At i → n ≤ k → OpensGive x t offsets count own excused found g best acc
-    unfolding elementsIn listed openIn least
-    answered {excused = excused} f q h = rw f (record { is = λ ms o back r id e. of-some (λ z. least best (openIn ms back id false (elementsIn z))) q (record { is = λ v s. ended (p .left v s) h .of ms o back r id e }) })
+    unfolding elementsIn openIn least
+    answered f q h = rw f (record { is = λ ms o back r id e. of-some (λ z. least best (openIn ms back id false (elementsIn z))) q (record { is = λ v s. walk-done (p .walk) h s .of ms o back r id e }) })
 
   pub answered-other : (best : ℕ) {found : Found} {b excused : Bool} → excused ≡ false → found ≡ At i → Gives isArrayValue x t i b → not b ≡ true → OpensGive x t offsets count own excused found g best best
   unfolding elementsIn openIn least

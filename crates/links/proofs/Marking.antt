@@ -10,27 +10,26 @@ use lib.Dec.{eqb, ltb}
 use borrow.Author.Tests.{not-true, not-false, lt-ltb, le-ltb, ne-eqb, eq-eqb, eqb-true, eqb-false}
 use Rattle.grid.specs.Grid.{holds, Puts}
 use Rattle.grid.specs.Laws.{put-other-row}
-use Rattle.json.specs.Tree.{Json, Items}
+use Rattle.json.specs.Tree.{Json}
 use Rattle.json.specs.Table.{Sub}
-use Rattle.json.specs.Laws.{Left, Past, past, over, ended}
 use Rattle.model.specs.Model.{numberOf}
-use Rattle.nodes.specs.Access.{isStringValue, isArrayValue, textOf, nameOf, listed, elements, Member, firstNamed}
+use Rattle.nodes.specs.Access.{isStringValue, isArrayValue, textOf, nameOf, elements, Member, firstNamed}
 use Rattle.nodes.specs.Everywhere.{among}
 use Rattle.nodes.specs.Faults.{least}
-use Rattle.nodes.specs.Laws.{elements-begin, no-elements, least-++}
+use Rattle.nodes.specs.Laws.{no-elements, least-++}
 use Rattle.nodes.specs.Parts.{textAt}
 use Rattle.nodes.specs.Says.{Node, Finds, Gives}
 use Rattle.nodes.specs.declared.Found.{Found}
 use Rattle.nodes.specs.declared.Found.the-variants.{At, Nothing}
 use Rattle.shapes.specs.Checks.{unless, isSome}
 use Rattle.shapes.specs.Laws.{unless-true}
-use Rattle.fields.specs.Laws.{at-node, of-none, of-some}
 use Rattle.ids.specs.Says.{Offsets, Objects, Numbers, namesOf}
 use Rattle.ids.proofs.Rules.{string-text}
 use Rattle.links.specs.Links.{elementsIn, idsAmong}
 use Rattle.links.specs.Passes.{absentAt, absent, marks}
 use Rattle.links.specs.Says.{seen, Row, Beside, MarkGives, MarksGive}
 use Rattle.links.proofs.Marks.{among-marks, some-number}
+use Rattle.links.proofs.Walk.{Walking, walk-begin, walk-turn, walk-done}
 
 -- ---- the row
 
@@ -138,72 +137,50 @@ unfolding absent
 absent-cons b ms earlier v vs = least-++ b (absentAt ms earlier v) (absent ms (idsAmong (v ∷ []) ++ earlier) vs)
 
 -- after the IDs `earlier` the row is right, and the faults and the IDs of `all` are those of what is left
-record Rest (ms : List Member) (row best acc : ℕ) (g : List ℕ) (all left : List Json) : Type 0 where
-  earlier : List (List ℕ)
-  right : Row (namesOf ms) g row earlier
-  faults : least acc (absent ms earlier left) ≡ least best (absent ms [] all)
-  ids : seen earlier left ≡ seen [] all
+pub record Rest (ms : List Member) (row best acc : ℕ) (g : List ℕ) (all left : List Json) : Type 0 where
+  pub earlier : List (List ℕ)
+  pub right : Row (namesOf ms) g row earlier
+  pub faults : least acc (absent ms earlier left) ≡ least best (absent ms [] all)
+  pub ids : seen earlier left ≡ seen [] all
 
-record Rests (x t offsets : List ℕ) (count row best acc : ℕ) (g₀ g : List ℕ) (all left : List Json) : Type 0 where
-  of : (ms : List Member) → Offsets x t ms offsets count → Row (namesOf ms) g₀ row [] → Rest ms row best acc g all left
+pub record Rests (x t offsets : List ℕ) (count row best acc : ℕ) (g₀ g : List ℕ) (all left : List Json) : Type 0 where
+  pub of : (ms : List Member) → Offsets x t ms offsets count → Row (namesOf ms) g₀ row [] → Rest ms row best acc g all left
 
 -- what the loop over the values of the list at the node i knows where it has come to the node k, with the least fault acc and the set g
 pub record Marking (x t offsets : List ℕ) (count row i best n k acc : ℕ) (g₀ g : List ℕ) : Type 0 where
-  pub node : Node x t i
+  pub walk : Walking x t i n k (Rests x t offsets count row best acc g₀ g)
   pub beside : Beside g₀ g row
-  left : (v : Json) → Sub x t i v → Left x t k n (λ vs. Rests x t offsets count row best acc g₀ g (elements v) (listed vs))
 
 module _ {x t offsets : List ℕ} {count row i : ℕ} {g₀ : List ℕ} where
   pub marking-begin : (best : ℕ) {n : ℕ} {b : Bool} → Node x t i → Gives isArrayValue x t i b → not b ≡ false → n ≡ getD t (i + 2) 0 → Marking x t offsets count row i best n (i + 3) best g₀ g₀
-  marking-begin best {n} {b} d a h q =
-      record {
-        node = d;
-        beside = beside-same g₀ row;
-        left = λ v s. rw q (elements-begin (λ l. Rests x t offsets count row best best g₀ g₀ (elements v) l) s (sym (a .is v s) ∙ not-false b h) (record { of = λ ms o r. record { earlier = []; right = r; faults = refl; ids = refl } }));
-      }
+  marking-begin best d a h q = record {
+    walk = walk-begin (Rests x t offsets count row best best g₀ g₀) d a h q (λ l. record { of = λ ms o r. record { earlier = []; right = r; faults = refl; ids = refl } });
+    beside = beside-same g₀ row;
+  }
 
   module _ {best n k acc : ℕ} {g : List ℕ} (p : Marking x t offsets count row i best n k acc g₀ g) where
     pub marking-room : row * 128 + 128 ≤ length g₀ → row * 128 + 128 ≤ length g
     marking-room h = omega (arith, p .beside .room)
 
-    module _ (l : k < n) where
-      present : Past x t k n (λ vs. Rests x t offsets count row best acc g₀ g (elements (p .node .value)) (listed vs))
-      present = past (p .left (p .node .value) (p .node .stands)) l
-
-      pub marking-node : Node x t k
-      marking-node = let u = present in record { value = u .value; stands = u .stands; short = p .node .short }
-
-      pub marking-next : k + 2 < length t
-      marking-next = present .word .room
-
-      pub marking-less : {m : ℕ} → m ≡ getD t (k + 2) 0 → n - m < n - k
-      marking-less q = let u = present in omega (arith, u .more, u .within)
-
-      pub marking-turn : {m acc′ : ℕ} {g′ : List ℕ} → MarkGives x t offsets count row k g g′ acc acc′ → m ≡ getD t (k + 2) 0 → Marking x t offsets count row i best n m acc′ g₀ g′
-      unfolding listed seen
-      marking-turn {m} {acc′} {g′} e q = record { node = p .node; beside = beside-then (p .beside) (e .beside); left = λ v s. rw q (on v (past (p .left v s) l)) }
-        where
-          on : (v : Json) → Past x t k n (λ vs. Rests x t offsets count row best acc g₀ g (elements v) (listed vs)) → Left x t (getD t (k + 2) 0) n (λ vs. Rests x t offsets count row best acc′ g₀ g′ (elements v) (listed vs))
-          on v u =
-              over u (record {
-                of = λ ms o r₀.
-                    let r = u .holds .of ms o r₀ in
-                    let (a, c) = e .is ms o (r .earlier) (r .right) (u .value) (u .stands) in
-                    record {
-                      earlier = idsAmong (u .value ∷ []) ++ r .earlier;
-                      right = c;
-                      faults = rw a (sym (absent-cons acc ms (r .earlier) (u .value) (listed (u .others))) ∙ r .faults);
-                      ids = r .ids;
-                    };
-              })
+    pub marking-turn : {m acc′ : ℕ} {g′ : List ℕ} → k < n → MarkGives x t offsets count row k g g′ acc acc′ → m ≡ getD t (k + 2) 0 → Marking x t offsets count row i best n m acc′ g₀ g′
+    unfolding seen
+    marking-turn {m} {acc′} {g′} l e q = record {
+      walk = walk-turn (p .walk) l (Rests x t offsets count row best acc′ g₀ g′) q (λ all v vs s u. record {
+        of = λ ms o r₀.
+            let r = u .of ms o r₀ in
+            let (a, c) = e .is ms o (r .earlier) (r .right) v s in
+            record { earlier = idsAmong (v ∷ []) ++ r .earlier; right = c; faults = rw a (sym (absent-cons acc ms (r .earlier) v vs) ∙ r .faults); ids = r .ids };
+      });
+      beside = beside-then (p .beside) (e .beside);
+    }
 
     pub marked : {found : Found} → found ≡ At i → n ≤ k → MarksGive x t offsets count row found g₀ g best acc
-    unfolding elementsIn listed absent seen least Finds
+    unfolding elementsIn absent seen least Finds
     marked {found} q h = record {
       beside = p .beside;
       is = λ ms o r z f.
           let (v, w, s) : Finds x t z (At i) = subst (Finds x t z) q f in
-          let e = ended (p .left v s) h .of ms o r in
+          let e = walk-done (p .walk) h s .of ms o r in
           let a : acc ≡ least best (absent ms [] (elements v)) = e .faults in
           let c : e .earlier ≡ seen [] (elements v) = e .ids in
           rw w (a, rw (← c) (e .right));

@@ -17,8 +17,9 @@ use Rattle.fields.specs.Laws.{at-node}
 use Rattle.ids.specs.Says.{Objects, Chains}
 use Rattle.ids.proofs.Rules.{ids, object-node, object-value, fresh-zero, fresh-length}
 use Rattle.links.specs.Says.{Numbered, Empty}
-use Rattle.links.proofs.Marking.{mark-other, mark-absent, mark-again, mark-new, marking-begin, marking-room, marking-node, marking-next, marking-less, marking-turn, marked, marked-other, marked-nothing}
-use Rattle.links.proofs.Answering.{open-other, open-absent, open-told, answering-begin, answering-node, answering-next, answering-less, answering-turn, answered, answered-other, answered-nothing, answered-excused}
+use Rattle.links.proofs.Walk.{walk-node, walk-less}
+use Rattle.links.proofs.Marking.{mark-other, mark-absent, mark-again, mark-new, marking-begin, marking-room, marking-turn, marked, marked-other, marked-nothing}
+use Rattle.links.proofs.Answering.{open-other, open-absent, open-told, answering-begin, answering-turn, answered, answered-other, answered-nothing, answered-excused}
 use Rattle.links.proofs.Sweeps.{object-marks, filling-begin, filling-below, filling-above, filling-turn, filled, parent-some, parent-told, own-below, object-opens, opening-begin, opening-turn, opened, filled-all, all-given, objects-are, links-given}
 
 -- what a search in a value found is sought
@@ -47,8 +48,8 @@ emptied n q h = record { room = omega (arith, fresh-length n q); clear = fresh-z
 pub row-within : {k count n : ℕ} → k < count → count * 128 ≤ n → k * 128 + 128 ≤ n
 row-within l h = omega arith
 
-pub ruleset marking = (checking, needs, ids, at-node, at-room, at-onward, mark-other, mark-absent, mark-again, mark-new, marking-begin, marking-room, marking-node, marking-next, marking-less, marking-turn, marked, marked-other, marked-nothing)
+pub ruleset marking = (checking, needs, ids, at-node, at-room, at-onward, walk-node, walk-less, mark-other, mark-absent, mark-again, mark-new, marking-begin, marking-room, marking-turn, marked, marked-other, marked-nothing)
 
-pub ruleset answering = (checking, needs, ids, at-node, at-room, at-onward, open-other, open-absent, open-told, answering-begin, answering-node, answering-next, answering-less, answering-turn, answered, answered-other, answered-nothing, answered-excused)
+pub ruleset answering = (checking, needs, ids, at-node, at-room, at-onward, walk-node, walk-less, open-other, open-absent, open-told, answering-begin, answering-turn, answered, answered-other, answered-nothing, answered-excused)
 
 pub ruleset sweeping = (checking, needs, ids, sought-in, filling-begin, filling-below, filling-above, filling-turn, filled, own-below, opening-begin, opening-turn, opened, filled-all, all-given, objects-are, links-given)

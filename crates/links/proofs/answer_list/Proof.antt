@@ -1,6 +1,7 @@
 -- `links::answer_list` meets its contract. Assumes nothing.
 use Prim.Native.Nat.{_-_}
-use Rattle.links.proofs.Answering.{Answering, answering-next}
+use Rattle.links.proofs.Answering.{Answering}
+use Rattle.links.proofs.Walk.{walk-next}
 use Rattle.links.proofs.Rules.{answering}
 use Rattle.links.proofs.answer_list.Statement.{statement}
 use Rattle.links.proofs.answer_list.Tie as tie
@@ -12,7 +13,7 @@ abbrev μ-loop : tie.MeasureT-loop
 μ-loop text table offsets count heads nexts set own excused best i n least₀ k₀ least k = n - k
 
 next-requires-2 : tie.Need-next-requires-2 Inv-loop μ-loop
-next-requires-2 c κs = answering-next (c .before .before .loop .inv) (c .before .loop-test .taken)
+next-requires-2 c κs = walk-next (c .before .before .loop .inv .walk) (c .before .loop-test .taken)
 
 pub answer-list-spec : {M : Type 1} → statement M
 answer-list-spec =
