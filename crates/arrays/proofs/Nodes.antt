@@ -8,14 +8,14 @@ use mathlib.Core.Option.{Option, some}
 use mathlib.Core.Option as option
 use lib.ListN.{length, getD}
 use lib.Seq.{slice}
-use lib.IntN.{ℤ}
+use lib.IntN.{ℤ, pos}
 use mir.Syntax.{w64}
-use mir.Val.{toZ, ofZ}
+use mir.Val.{Fits, toZ, ofZ}
 use mir.Facts.{toZ-ofZ}
 use borrow.Author.Needs.{sfits-of}
 use borrow.Author.Tests.{not-true}
 use Rattle.numerals.specs.Numerals.{Decimal, pairOf, integer, fits32}
-use Rattle.numerals.specs.Reading.{pairIn, IsWhole}
+use Rattle.numerals.specs.Reading.{pairIn, IsWhole, Quick}
 use Rattle.numerals.specs.declared.Numeral.{Numeral}
 use Rattle.numerals.specs.declared.Numeral.the-variants as variant
 use Rattle.numerals.specs.declared.Whole.{Whole}
@@ -27,8 +27,9 @@ use Rattle.nodes.specs.Says.{Node, Gives}
 use Rattle.nodes.specs.Laws.{NumeralAt, numeral-at, no-elements}
 use Rattle.model.specs.Code.{le, signed, each}
 use Rattle.model.specs.Model.{layThree, layDecimal, layNest, layValue, layValues}
-use Rattle.model.specs.Read.{zeroIfNone, decimalOf, integerOf, indexOf, valueOf, threeOf, nestOf}
+use Rattle.model.specs.Read.{natural, zeroIfNone, decimalOf, integerOf, indexOf, valueOf, threeOf, nestOf}
 use Rattle.model.specs.Weigh.{decimal-fits}
+use Rattle.sheets.specs.Numbers.{integer-read}
 use Rattle.writer.specs.Writes.{Writes, Skips, twos}
 use Rattle.writer.specs.Laws.{then, as-bytes, numbered, wrote-signed}
 use Rattle.arrays.specs.Fits.{Pair, Coordinate, Index, Value, Elements, Triple, Leaves}
@@ -122,12 +123,20 @@ module _ {x t : List ℕ} {i : ℕ} where
             let n : integerOf v ≡ z = c ∙ ap integer (sym (bytes (coordinate-number h) q o v s)) ∙ sym y in
             rw (← wrote-signed 4 (integerOf v) (omega arith) l, n, ← k) w
 
-  -- an index
-  pub index-wrote : Holds Index x t i → {p e : ℕ} {w : Whole} {d₀ d : List ℕ} {to r : ℕ} → p ≡ getD t i 0 → e ≡ getD t (i + 1) 0 → IsWhole (slice p e x) w → Writes (le 4 (w .magnitude)) d₀ d to r → Wrote (λ v. le 4 (indexOf v)) x t i d₀ d to r
-  index-wrote h {w = w} {d₀} {d} {to} {r} q o k u = record { is = go }
-    where
-      go : (v : Json) → Sub x t i v → Writes (le 4 (indexOf v)) d₀ d to r
-      go v s = let z : indexOf v ≡ w .magnitude = index-read v (h .holds v s) .0 ∙ rw (← bytes (index-number h) q o v s) (sym (k .size)) in rw z u
+    pub coordinate-quick : {n : ℕ} {d₀ d : List ℕ} {to r : ℕ} → Quick (slice p e x) n → (n ≡ 18446744073709551615 → ⊥) → Fits w64 n → Writes (le 4 n) d₀ d to r → Wrote (λ v. signed 4 (integerOf v)) x t i d₀ d to r
+    unfolding twos
+    coordinate-quick {n} k m f w = coordinate-wrote {z = pos n} (sym (k .value (omega (arith, f .fits)))) refl w
+
+  -- an index, read in one go or by its digits
+  pub index-quick : Holds Index x t i → {p e n : ℕ} → p ≡ getD t i 0 → e ≡ getD t (i + 1) 0 → Quick (slice p e x) n → (n ≡ 18446744073709551615 → ⊥) → Fits w64 n → Gives indexOf x t i n
+  unfolding Index indexOf natural
+  index-quick h {p} {e} {n} q o k m f = record { is = λ v s. sym (ap natural (integer-read v (h .holds v s .0) ∙ ap integer (sym (bytes (index-number h) q o v s)) ∙ k .value (omega (arith, f .fits)))) }
+
+  pub index-whole : Holds Index x t i → {p e : ℕ} {w : Whole} → p ≡ getD t i 0 → e ≡ getD t (i + 1) 0 → IsWhole (slice p e x) w → Gives indexOf x t i (w .magnitude)
+  index-whole h {w = w} q o k = record { is = λ v s. sym (index-read v (h .holds v s) .0 ∙ rw (← bytes (index-number h) q o v s) (sym (k .size))) }
+
+  pub index-wrote : {n : ℕ} {d₀ d : List ℕ} {to r : ℕ} → Gives indexOf x t i n → Writes (le 4 n) d₀ d to r → Wrote (λ v. le 4 (indexOf v)) x t i d₀ d to r
+  index-wrote g w = wrote-told (le 4) g w
 
   -- three of a kind
   pub triple-elements : (P : Json → Type 0) → Holds (Triple P) x t i → Holds (Elements P) x t i

@@ -5,6 +5,7 @@ ghost use Rattle.model.specs.Code.{le, signed, each};
 ghost use Rattle.model.specs.Model.{layThree, layDecimal, layNest, layValue, layValues};
 ghost use Rattle.model.specs.Read.{decimalOf, integerOf, indexOf, valueOf, threeOf, nestOf};
 ghost use Rattle.nodes.specs.Access.{elements};
+ghost use Rattle.nodes.specs.Says.{Gives};
 ghost use Rattle.arrays.specs.Fits.{Pair, Coordinate, Index, Value, Elements, Triple, Leaves};
 ghost use Rattle.arrays.specs.Says.{Holds, Wrote};
 use numerals::Numeral;
@@ -45,7 +46,13 @@ fn coordinate(text: &[u8], table: &[u32], i: usize, sheet: &mut [u8], at: usize)
     requires { ⌜ Holds Coordinate (now text) (now table) i ⌝ }
     ensures { λ r. ⌜ Wrote (λ v. signed 4 (integerOf v)) (now (text .entry)) (now (table .entry)) i (now (sheet .entry)) (now (sheet .exit)) at r ⌝ }
 {
-    let z = numerals::small(text, nodes::start(table, i), nodes::end(table, i));
+    let from = nodes::start(table, i);
+    let to = nodes::end(table, i);
+    let n = numerals::quick(text, from, to);
+    if n != 0xffff_ffff_ffff_ffff {
+        return writer::put4(sheet, at, n);
+    }
+    let z = numerals::small(text, from, to);
     writer::put4(sheet, at, writer::bits(z))
 }
 
@@ -85,13 +92,28 @@ pub fn vertices(text: &[u8], table: &[u32], i: usize, sheet: &mut [u8], at: usiz
     o
 }
 
+// The value of an index.
+fn index_of(text: &[u8], table: &[u32], i: usize) -> u64
+    requires { ⌜ Holds Index (now text) (now table) i ⌝ }
+    ensures { λ r. ⌜ Gives indexOf (now (text .entry)) (now (table .entry)) i r ⌝ }
+{
+    let from = nodes::start(table, i);
+    let to = nodes::end(table, i);
+    let n = numerals::quick(text, from, to);
+    if n != 0xffff_ffff_ffff_ffff {
+        return n;
+    }
+    let w = numerals::integer(text, from, to);
+    w.magnitude
+}
+
 // An index in four bytes.
 fn index(text: &[u8], table: &[u32], i: usize, sheet: &mut [u8], at: usize) -> usize
     requires { ⌜ Holds Index (now text) (now table) i ⌝ }
     ensures { λ r. ⌜ Wrote (λ v. le 4 (indexOf v)) (now (text .entry)) (now (table .entry)) i (now (sheet .entry)) (now (sheet .exit)) at r ⌝ }
 {
-    let w = numerals::integer(text, nodes::start(table, i), nodes::end(table, i));
-    writer::put4(sheet, at, w.magnitude)
+    let n = index_of(text, table, i);
+    writer::put4(sheet, at, n)
 }
 
 // A boundary of that depth: each array as its count and its elements. The count is written last, at the place that was kept for it.
