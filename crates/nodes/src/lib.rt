@@ -223,15 +223,15 @@ fn wide_byte(b: u8) -> u32
 
 // The number of some bytes, with one byte more.
 fn mixed(h: u32, b: u8) -> u32
-    requires { ⌜ h < 65521 ⌝ }
-    ensures { λ r. ⌜ (r ≡ (h * 257 + b) % 65521) × (r < 65521) ⌝ }
+    requires { ⌜ h < 67108864 ⌝ }
+    ensures { λ r. ⌜ (r ≡ (h * 31 + b) % 67108864) × (r < 67108864) ⌝ }
 {
-    (h * 257 + wide_byte(b)) % 65521
+    (h * 31 + wide_byte(b)) % 67108864
 }
 
 // The number of the bytes that the cursor has ahead, where those before have the number `seed`.
 fn hash_ahead(text: &[u8], from: strings::Cursor, seed: u32) -> u32
-    requires { ⌜ (Span (now text) (from .at) (from .end)) × (seed < 65521) ⌝ }
+    requires { ⌜ (Span (now text) (from .at) (from .end)) × (seed < 67108864) ⌝ }
     ensures { λ r. ⌜ r ≡ hashFrom seed (ahead (now (text .entry)) from) ⌝ }
 {
     let mut c = from;
