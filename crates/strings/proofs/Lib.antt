@@ -3,4 +3,5 @@ mod Bytes
 mod Pieces
 mod Escapes
 mod Loops
+mod Scans
 mod Rules

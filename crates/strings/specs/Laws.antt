@@ -1,16 +1,16 @@
--- Laws of decoding: where a string stands does not change what it stands for; it stands for no more bytes than it has; the places of its unpaired surrogates are in increasing order.
+-- Laws of decoding: where a string stands does not change what it stands for; it stands for no more bytes than it has; the places of its unpaired surrogates are in increasing order, and there are none where no byte is a backslash.
 -- Assumes nothing.
 use Prim.Native.Nat.{ℕ, zero, suc, _+_, _-_, _*_, _/_, _≤_, _<_}
 use native.Mathlib.Omega.{arith}
 use mathlib.Core.Path.{_≡_, refl, ap, sym, _∙_, subst}
-use mathlib.Core.Bool.{Bool, true, false, cond, _&&_}
+use mathlib.Core.Bool.{Bool, true, false, cond, _&&_, _||_}
 use mathlib.Core.Logic.{⊎-elim}
 use mathlib.Core.List.{List, [], _∷_, _++_, append-nil, List·Memᴰ, List·Memᴰ·not-nil, List·Memᴰ·cases-cons}
-use lib.ListN.{length, length-append}
+use lib.ListN.{length, take, drop, length-append, take-append-drop}
 use lib.Dec.{eqb, leb, ltb}
 use lib.Seq.{slice, length-slice}
 use Rattle.utf8.specs.Utf8.{encode}
-use Rattle.strings.specs.Spans.{Span, decodeAt, unpairedAt, pending, ahead, away, firstOf}
+use Rattle.strings.specs.Spans.{Span, decodeAt, unpairedAt, pending, ahead, away, firstOf, hasByte}
 use Rattle.strings.specs.declared.Cursor.{Cursor}
 use Rattle.strings.specs.declared.Found.the-variants.{At}
 use Rattle.strings.specs.Strings.{Piece, byte, unit, Mark, plain, slash, hex, hexValue, escaped, next, ended, pieces, isHigh, isLow, paired, decoded, decode, alone, unpaired, unpairedFrom}
@@ -240,3 +240,30 @@ unfolding unpairedAt
 found-within x at end p s f =
     let k : (at ≤ p) × (p < at + length (slice at end x)) = first-within at (at + length (slice at end x)) p _ (unpaired-rising at (slice at end x)) f in
     (k .0, omega (arith, k .1, length-slice at end x (s .high), s .low))
+
+-- a byte of two lists is one of the first or of the second
+pub has-append : (b : ℕ) (l m : List ℕ) → hasByte b (l ++ m) ≡ (hasByte b l || hasByte b m)
+unfolding hasByte
+has-append b [] m = refl
+has-append b (a ∷ l) m = has-or (eqb a b) (hasByte b l) (hasByte b m) (has-append b l m)
+  where
+    has-or : (c d e : Bool) {r : Bool} → r ≡ (d || e) → (c || r) ≡ ((c || d) || e)
+    has-or true d e q = refl
+    has-or false d e q = q
+
+neither : (c d : Bool) → (c || d) ≡ false → (c ≡ false) × (d ≡ false)
+neither true d q = let z : _≡_ {A = ℕ} 0 1 = cc in absurd (omega arith)
+neither false d q = (refl, q)
+
+none-of : (b n : ℕ) (l : List ℕ) → hasByte b l ≡ false → (hasByte b (take n l) ≡ false) × (hasByte b (drop n l) ≡ false)
+none-of b n l q = neither (hasByte b (take n l)) (hasByte b (drop n l)) (sym (has-append b (take n l) (drop n l)) ∙ (ap (hasByte b) (take-append-drop n l) ∙ q))
+
+-- a byte that a text has not, no part of it has
+pub none-slice : (b from to : ℕ) (x : List ℕ) → hasByte b x ≡ false → hasByte b (slice from to x) ≡ false
+none-slice b from to x q = none-of b from (take to x) (none-of b to x q .0) .1
+
+-- a string with no backslash has no surrogate
+pub unpaired-plain : (n : ℕ) (raw : List ℕ) → hasByte 92 raw ≡ false → unpairedFrom n raw ≡ []
+unfolding hasByte unpairedFrom pieces ended next unpaired
+unpaired-plain n [] q = refl
+unpaired-plain n (b ∷ raw) q = let z = neither (eqb b 92) (hasByte 92 raw) q in rw (z .0) (unpaired-plain (n + 1) raw (z .1))

@@ -1,11 +1,11 @@
 -- What the inner functions tell: of the escape at an offset, and of the bytes of a character. Assumes nothing: these are definitions.
-use Prim.Native.Nat.{ℕ, _+_, _*_, _≤_, _<_}
+use Prim.Native.Nat.{ℕ, _+_, _-_, _*_, _≤_, _<_}
 use mathlib.Core.Path.{_≡_}
-use mathlib.Core.Bool.{Bool, false}
+use mathlib.Core.Bool.{Bool, true, false}
 use mathlib.Core.List.{List, [], _∷_, _++_}
 use lib.ListN.{getD}
 use lib.Seq.{slice}
-use Rattle.utf8.specs.Utf8.{encode}
+use Rattle.utf8.specs.Utf8.{encode, same}
 use Rattle.strings.specs.Strings.{Piece, byte, unit, plain, pieces, hexValue, isLow, alone}
 use Rattle.strings.specs.Spans.{decodeAt, unpairedAt, pending}
 use Rattle.strings.specs.declared.Cursor.{Cursor}
@@ -81,3 +81,8 @@ pub record IsSpread (u at end b : ℕ) (d : Cursor) : Type 0 where
 unfoldable pub Spreads : ℕ → ℕ → ℕ → Step → Type 0
 Spreads u at end (Byte b d) = IsSpread u at end b d
 Spreads u at end Done = ⊥
+
+-- a look at two strings of one length tells that they stand for the same bytes, or nothing
+unfoldable pub Agree : List ℕ → ℕ → ℕ → ℕ → Bool → Type 0
+Agree x at end at2 true = true ≡ same (decodeAt x at end) (decodeAt x at2 (at2 + (end - at)))
+Agree x at end at2 false = Unit

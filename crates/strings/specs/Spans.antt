@@ -2,8 +2,10 @@
 -- Assumes nothing: these are definitions.
 use Prim.Native.Nat.{ℕ, zero, suc, _+_, _-_, _/_, _%_, _≤_, _<_}
 use mathlib.Core.Path.{_≡_}
+use mathlib.Core.Bool.{Bool, false, _||_}
 use mathlib.Core.List.{List, [], _∷_, _++_}
 use lib.ListN.{length, take, drop}
+use lib.Dec.{eqb}
 use lib.Seq.{slice}
 use Rattle.strings.specs.Strings.{decode, unpairedFrom}
 use Rattle.strings.specs.declared.Cursor.{Cursor}
@@ -61,3 +63,8 @@ pub record Copied (ws d₀ d : List ℕ) (to r : ℕ) : Type 0 where
 unfoldable pub firstOf : List ℕ → Found
 firstOf [] = Nothing
 firstOf (p ∷ ps) = At p
+
+-- is one of the bytes b?
+unfoldable pub hasByte : ℕ → List ℕ → Bool
+hasByte b [] = false
+hasByte b (a ∷ l) = eqb a b || hasByte b l

@@ -2,10 +2,11 @@
 ghost use Prim.Native.Nat.{_+_, _-_, _%_, _≤_, _<_};
 ghost use mathlib.Core.Path.{_≡_};
 ghost use lib.ListN.{length, drop, getD};
+ghost use lib.Seq.{slice};
 ghost use Rattle.utf8.specs.Utf8.{encode, same};
 ghost use Rattle.strings.specs.Strings.{hexValue, escaped, paired};
-ghost use Rattle.strings.specs.Spans.{Span, decodeAt, unpairedAt, ahead, away, Steps, Copied, firstOf};
-ghost use Rattle.strings.specs.Parts.{unitAt, Halves, Escapes, Spreads};
+ghost use Rattle.strings.specs.Spans.{Span, decodeAt, unpairedAt, ahead, away, Steps, Copied, firstOf, hasByte};
+ghost use Rattle.strings.specs.Parts.{unitAt, Halves, Escapes, Spreads, Agree};
 
 // A place in a string that is being decoded. `word` holds the bytes of a character that are still to be handed out, the next one in its lowest eight bits, and `left` how many they are.
 pub struct Cursor {
@@ -363,8 +364,29 @@ fn same_ahead(text: &[u8], one: Cursor, other: Cursor) -> bool
     }
 }
 
-// Do two strings stand for the same bytes?
-pub fn same_string(text: &[u8], at: usize, end: usize, at2: usize, end2: usize) -> bool
+// Are two stretches of the text of one length alike, with no backslash?
+fn same_plain(text: &[u8], at: usize, end: usize, at2: usize) -> bool
+    requires { ⌜ (Span (now text) at end) × (Span (now text) at2 (at2 + (end - at))) ⌝ }
+    ensures { λ r. ⌜ Agree (now (text .entry)) at end at2 r ⌝ }
+{
+    let mut i = at;
+    let mut j = at2;
+    while i < end {
+        let one = text[i];
+        if one != text[j] {
+            return false;
+        }
+        if one == b'\\' {
+            return false;
+        }
+        i += 1;
+        j += 1;
+    }
+    true
+}
+
+// Do two strings stand for the same bytes? Byte by byte up to a backslash, and from there on decoded.
+fn same_decoded(text: &[u8], at: usize, end: usize, at2: usize, end2: usize) -> bool
     requires { ⌜ (Span (now text) at end) × (Span (now text) at2 end2) ⌝ }
     ensures { λ r. ⌜ r ≡ same (decodeAt (now (text .entry)) at end) (decodeAt (now (text .entry)) at2 end2) ⌝ }
 {
@@ -403,6 +425,19 @@ pub fn same_string(text: &[u8], at: usize, end: usize, at2: usize, end2: usize) 
             left: 0,
         },
     )
+}
+
+// Do two strings stand for the same bytes? Most that do are alike as they stand.
+pub fn same_string(text: &[u8], at: usize, end: usize, at2: usize, end2: usize) -> bool
+    requires { ⌜ (Span (now text) at end) × (Span (now text) at2 end2) ⌝ }
+    ensures { λ r. ⌜ r ≡ same (decodeAt (now (text .entry)) at end) (decodeAt (now (text .entry)) at2 end2) ⌝ }
+{
+    if end - at == end2 - at2 {
+        if same_plain(text, at, end, at2) {
+            return true;
+        }
+    }
+    same_decoded(text, at, end, at2, end2)
 }
 
 // How many bytes a character is written as.
@@ -531,4 +566,46 @@ pub fn first_unpaired(text: &[u8], at: usize, end: usize) -> Found
         }
     }
     Found::Nothing
+}
+
+// Is one of the sixteen bytes from `at` on a backslash? The compiler looks at them all at once.
+fn escape_in_16(text: &[u8], at: usize) -> bool
+    requires { ⌜ at + 16 ≤ length (now text) ⌝ }
+    ensures { λ r. ⌜ r ≡ hasByte 92 (slice at (at + 16) (now (text .entry))) ⌝ }
+{
+    let mut found = false;
+    let mut k: usize = 0;
+    while k < 16 {
+        found = found | (text[at + k] == b'\\');
+        k += 1;
+    }
+    found
+}
+
+// Is one of the bytes from `at` on a backslash?
+fn escape_from(text: &[u8], at: usize) -> bool
+    ensures { λ r. ⌜ r ≡ hasByte 92 (drop at (now (text .entry))) ⌝ }
+{
+    let mut i = at;
+    while i < text.len() {
+        if text[i] == b'\\' {
+            return true;
+        }
+        i += 1;
+    }
+    false
+}
+
+// Has the text a backslash?
+pub fn has_escape(text: &[u8]) -> bool
+    ensures { λ r. ⌜ r ≡ hasByte 92 (now (text .entry)) ⌝ }
+{
+    let mut i = 0;
+    while text.len() - i >= 16 {
+        if escape_in_16(text, i) {
+            return true;
+        }
+        i += 16;
+    }
+    escape_from(text, i)
 }

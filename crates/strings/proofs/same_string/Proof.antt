@@ -1,31 +1,15 @@
--- `strings::same_string` meets its contract. The loop: the answer is that of comparing what is left of the two strings. Assumes nothing.
-use Prim.Native.Nat.{_-_}
-use mathlib.Core.Path.{_≡_}
-use Rattle.utf8.specs.Utf8.{same}
-use Rattle.strings.specs.Spans.{Span, decodeAt}
-use Rattle.strings.proofs.Rules.{turns}
+-- `strings::same_string` meets its contract. Assumes nothing.
+use Rattle.strings.proofs.Rules.{scans}
 use Rattle.strings.proofs.same_string.Statement.{statement}
 use Rattle.strings.proofs.same_string.Tie as tie
-
-abbrev Inv-loop : tie.InvT-loop
-Inv-loop text at end at2 end2 i₀ j₀ i j = (Span text i end) × (Span text j end2) × (same (decodeAt text at end) (decodeAt text at2 end2) ≡ same (decodeAt text i end) (decodeAt text j end2))
-
-abbrev μ-loop : tie.MeasureT-loop
-μ-loop text at end at2 end2 i₀ j₀ i j = end - i
 
 pub same-string-spec : {M : Type 1} → statement M
 same-string-spec =
     tie.close
     (tie.spec
-    Inv-loop
-    μ-loop
-    (λ c. search turns)
-    (λ c. search turns)
-    (λ c. search turns)
-    (λ c. search turns)
-    (λ c. search turns)
-    (λ c. search turns)
-    (λ c. search turns)
-    (λ c. search turns)
-    (λ c κs. search turns)
-    (λ c. search turns))
+    (λ c. search scans)
+    (λ c. search scans)
+    (λ c κs. search scans)
+    (λ c. search scans)
+    (λ c κs. search scans)
+    (λ c. search scans))

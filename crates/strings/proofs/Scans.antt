@@ -1,0 +1,115 @@
+-- Looking for a backslash, and comparing two strings as they stand. Assumes nothing.
+use Prim.Native.Nat.{ℕ, zero, suc, _+_, _-_, _≤_, _<_}
+use native.Mathlib.Omega.{arith}
+use native.Mathlib.Numerals.{add-one}
+use mathlib.Core.Path.{_≡_, refl, sym, ap, _∙_}
+use mathlib.Core.Bool.{Bool, true, false, _||_}
+use mathlib.Core.List.{List, [], _∷_, _++_}
+use lib.ListN.{length, getD, take, drop, drop-of-length-le, take-append-drop}
+use lib.Seq.{slice, slice-cons, slice-empty, drop-cons}
+use lib.Dec.{eqb}
+use borrow.Author.Tests.{eq-eqb, ne-eqb}
+use Rattle.utf8.specs.Utf8.{same}
+use Rattle.strings.specs.Laws.{has-append}
+use Rattle.strings.specs.Spans.{Span, decodeAt, hasByte}
+use Rattle.strings.specs.Parts.{Agree}
+use Rattle.strings.proofs.Pieces.{onward}
+use Rattle.strings.proofs.Loops.{at-end, both-end, plain-both-more}
+
+or-assoc : (a b c : Bool) → ((a || b) || c) ≡ (a || (b || c))
+or-assoc true b c = refl
+or-assoc false b c = refl
+
+or-none : (a : Bool) → (a || false) ≡ a
+or-none true = refl
+or-none false = refl
+
+-- sixteen bytes, one after the other: what was found, or what is still to come
+module _ (x : List ℕ) (at : ℕ) where
+  pub sixteen-begin : hasByte 92 (slice (at + 0) (at + 16) x) ≡ hasByte 92 (slice at (at + 16) x)
+  sixteen-begin = let z : at + 0 ≡ at = omega arith in rw z
+
+  module _ (k : ℕ) (f all : Bool) (e : (f || hasByte 92 (slice (at + k) (at + 16) x)) ≡ all) where
+    pub sixteen-more : at + 16 ≤ length x → k < 16 → ((f || eqb (getD x (at + k) 0) 92) || hasByte 92 (slice (at + (k + 1)) (at + 16) x)) ≡ all
+    unfolding hasByte
+    sixteen-more h l =
+        let z : suc (at + k) ≡ at + (k + 1) = omega arith in
+        let q : slice (at + k) (at + 16) x ≡ getD x (at + k) 0 ∷ slice (at + (k + 1)) (at + 16) x = slice-cons (at + k) (at + 16) x 0 (omega arith) h ∙ ap (λ (n : ℕ). getD x (at + k) 0 ∷ slice n (at + 16) x) z in
+        or-assoc f (eqb (getD x (at + k) 0) 92) _ ∙ (ap (λ (l : List ℕ). f || hasByte 92 l) (sym q) ∙ e)
+
+    pub sixteen-done : k ≤ 16 → 16 ≤ k → f ≡ all
+    unfolding hasByte
+    sixteen-done l h =
+        let z : at + k ≡ at + 16 = omega arith in
+        sym (or-none f) ∙ (rw (z, slice-empty (at + 16) x) at e)
+
+drop-slice : (j n : ℕ) (l : List ℕ) → j ≤ n → drop j l ≡ slice j n l ++ drop n l
+drop-slice zero n l h = sym (take-append-drop n l)
+drop-slice (suc j) zero l h = absurd (omega arith)
+drop-slice (suc j) (suc n) [] h = refl
+drop-slice (suc j) (suc n) (a ∷ l) h = drop-slice j n l (omega arith)
+
+-- the bytes from i on
+module _ (x : List ℕ) (i : ℕ) (all : Bool) (e : all ≡ hasByte 92 (drop i x)) where
+  pub from-here : i < length x → getD x i 0 ≡ 92 → true ≡ all
+  unfolding hasByte
+  from-here l q = rw (e, drop-cons x i 0 l, eq-eqb (getD x i 0) 92 q)
+
+  pub from-more : i < length x → (getD x i 0 ≡ 92 → ⊥) → all ≡ hasByte 92 (drop (i + 1) x)
+  unfolding hasByte
+  from-more l n = rw (e, drop-cons x i 0 l, ne-eqb (getD x i 0) 92 n, add-one i)
+
+  pub from-done : length x ≤ i → false ≡ all
+  unfolding hasByte
+  from-done l = rw (e, drop-of-length-le x {i = i} l)
+
+  pub has-rest : (r : Bool) → r ≡ hasByte 92 (drop i x) → r ≡ all
+  has-rest r q = q ∙ sym e
+
+  -- sixteen of them at a time
+  module _ (r : Bool) (q : r ≡ hasByte 92 (slice i (i + 16) x)) where
+    both : all ≡ (r || hasByte 92 (drop (i + 16) x))
+    both = rw (e, drop-slice i (i + 16) x (omega arith), has-append 92 (slice i (i + 16) x) (drop (i + 16) x), q)
+
+    pub has-here : r ≡ true → true ≡ all
+    has-here t = rw (both, t)
+
+    pub has-more : r ≡ false → all ≡ hasByte 92 (drop (i + 16) x)
+    has-more t = rw t at both
+
+pub has-room : (x : List ℕ) (i : ℕ) → i ≤ length x → 16 ≤ length x - i → i + 16 ≤ length x
+has-room x i h l = omega arith
+
+-- two strings of one length, byte by byte
+pub agree-none : (x : List ℕ) (at end at2 : ℕ) → Agree x at end at2 false
+unfolding Agree
+agree-none x at end at2 = tt
+
+module _ (x : List ℕ) (i end j at at2 : ℕ) (s : Span x i end) (t : Span x j (at2 + (end - at))) (e : i + at2 ≡ j + at) where
+  module _ (a : i < end) where
+    pub level : j < at2 + (end - at)
+    level = omega arith
+
+    pub level-inside : j < length x
+    level-inside = omega (arith, t .high)
+
+    pub level-onward : Span x (j + 1) (at2 + (end - at))
+    level-onward = onward t level
+
+    pub level-again : i + 1 + at2 ≡ j + 1 + at
+    level-again = omega arith
+
+    pub level-more : (v u : List ℕ) → same v u ≡ same (decodeAt x i end) (decodeAt x j (at2 + (end - at))) → getD x i 0 ≡ getD x j 0 → (getD x i 0 ≡ 92 → ⊥) → same v u ≡ same (decodeAt x (i + 1) end) (decodeAt x (j + 1) (at2 + (end - at)))
+    level-more v u q f n = plain-both-more s a n t level (λ h. n (f ∙ h)) v u q f
+
+  pub agree-all : Span x at end → end ≤ i → same (decodeAt x at end) (decodeAt x at2 (at2 + (end - at))) ≡ same (decodeAt x i end) (decodeAt x j (at2 + (end - at))) → Agree x at end at2 true
+  unfolding Agree
+  agree-all w l q = both-end _ _ _ _ q (at-end s l) (at-end t (omega (arith, w .low)))
+
+module _ (x : List ℕ) (at end at2 end2 : ℕ) (t : Span x at2 end2) (q : end - at ≡ end2 - at2) where
+  pub agree-span : Span x at2 (at2 + (end - at))
+  agree-span = record { low = omega arith; high = omega (arith, t .low, t .high) }
+
+  pub agree-same : (r : Bool) → Agree x at end at2 r → r ≡ true → true ≡ same (decodeAt x at end) (decodeAt x at2 end2)
+  unfolding Agree
+  agree-same r a z = let w : at2 + (end - at) ≡ end2 = omega (arith, t .low) in rw (z, w) at a
