@@ -1,17 +1,21 @@
 -- Passes over all nodes of a table, in the text's order: the faults of a tree are those of its parts, one after the other. Assumes nothing.
-use Prim.Native.Nat.{ℕ, _+_, _*_, _≤_, _<_}
+use Prim.Native.Nat.{ℕ, _+_, _-_, _*_, _≤_, _<_}
 use mathlib.Core.Path.{_≡_, refl, sym, ap, _∙_}
+use mathlib.Core.Bool.{Bool, true, false, not}
 use mathlib.Core.List.{List, [], _∷_, _++_, map, map-append, append-assoc, flatMap}
 use native.Mathlib.Omega.{arith}
 use lib.ListN.{length, length-append}
+use borrow.Author.Tests.{not-true}
 use Rattle.strings.specs.Strings.{unpairedFrom}
+use Rattle.strings.specs.Spans.{hasByte}
+use Rattle.strings.specs.Laws.{none-slice, unpaired-plain}
 use Rattle.json.specs.Tree.{Json, Items, _▸_, Members, member, Name}
 use Rattle.json.specs.Tree as tree
 use Rattle.json.specs.Table.{size, sizes, widths, Sub, null, bool, num, str, arr, obj, Subs, nil, cons, Fields, last, field}
 use Rattle.json.specs.Laws.{words}
 use Rattle.nodes.specs.Faults.{fault, least}
 use Rattle.nodes.specs.Everywhere.{strings, unpairedIn, rule5, repeated, rule6, rule6In, rule6Of, stringsIn, stringsOf}
-use Rattle.nodes.specs.Says.{Root}
+use Rattle.nodes.specs.Says.{Root, Gives}
 use Rattle.nodes.specs.Laws.{least-++, fieldsOf}
 use Rattle.nodes.specs.Parts.{Part, value, name, Stands, of-value, of-name, own5, own6, AnyPart, PartGives}
 
@@ -135,6 +139,27 @@ module _ {x t : List ℕ} where
     member-row : {i : ℕ} {ms : Members} → Fields x t i ms → Row x t i (partsOf ms)
     member-row last = none
     member-row (field {v = v} {ms = ms} q s fs) = some (of-name q) (row-++ _ (partsOf ms) (row s) (omega (arith, parts-size v)) (member-row fs))
+
+-- where the text has no backslash, no part breaks rule 5
+module _ {x t : List ℕ} (h : hasByte 92 x ≡ false) where
+  plain-part : {i : ℕ} {d : Part} → Stands x t i d → own5 d ≡ []
+  unfolding own5
+  plain-part (of-value (null w)) = refl
+  plain-part (of-value (bool w)) = refl
+  plain-part (of-value (num w n r)) = refl
+  plain-part (of-value (str {p = p} {e = e} q)) = rw (q .between) (unpaired-plain (p + 1) _ (none-slice 92 (p + 1) (e - 1) x h))
+  plain-part (of-value (arr w vs)) = refl
+  plain-part (of-value (obj w ms)) = refl
+  plain-part (of-name {k = k} q) = rw (q .between) (unpaired-plain (k .place + 1) _ (none-slice 92 (k .place + 1) (k .end - 1) x h))
+
+  plain-row : {i : ℕ} {ds : List Part} → Row x t i ds → flatMap own5 ds ≡ []
+  unfolding flatMap
+  plain-row none = refl
+  plain-row (some s r) = rw (plain-part s, plain-row r)
+
+pub rule5-clear : {x t : List ℕ} (b : ℕ) {r : Bool} → r ≡ hasByte 92 x → not r ≡ true → Gives (λ v. least b (map (fault 5) (rule5 v))) x t 0 b
+unfolding least
+rule5-clear b {r} q n = record { is = λ v s. rw (rule5-parts v, plain-row (sym q ∙ not-true r n) (row s)) }
 
 -- what a pass knows where it has come to the node k: the words from k up to n are those of the parts that are left, whose faults with b have the least `all`
 record Left (rule : ℕ) (own : Part → List ℕ) (x t : List ℕ) (n k b all : ℕ) : Type 0 where

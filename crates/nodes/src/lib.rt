@@ -169,11 +169,14 @@ fn unpaired_at(text: &[u8], table: &[u32], i: usize, best: u32) -> u32
     }
 }
 
-// Rule 5 in the tree whose table has n words.
+// Rule 5 in the tree whose table has n words. A text with no backslash has no escape.
 pub fn unpaired(text: &[u8], table: &[u32], n: usize, best: u32) -> u32
     requires { ⌜ Root (now text) (now table) n ⌝ }
     ensures { λ r. ⌜ Gives (λ v. least best (map (fault 5) (rule5 v))) (now (text .entry)) (now (table .entry)) 0 r ⌝ }
 {
+    if !strings::has_escape(text) {
+        return best;
+    }
     let mut least = best;
     let mut k = 0;
     while k < n {

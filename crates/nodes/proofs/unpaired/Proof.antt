@@ -2,7 +2,7 @@
 use Prim.Native.Nat.{_-_}
 use native.Mathlib.Omega.{arith}
 use Rattle.nodes.specs.Parts.{own5}
-use Rattle.nodes.proofs.Passes.{Pass, pass-begin, pass-part, pass-again, pass-done, rule5-parts}
+use Rattle.nodes.proofs.Passes.{Pass, pass-begin, pass-part, pass-again, pass-done, rule5-parts, rule5-clear}
 use Rattle.nodes.proofs.Rule5.{any-third}
 use Rattle.nodes.proofs.unpaired.Statement.{statement}
 use Rattle.nodes.proofs.unpaired.Tie as tie
@@ -16,7 +16,7 @@ abbrev μ-loop : tie.MeasureT-loop
 add-k : tie.Need-add-k Inv-loop μ-loop
 add-k c = omega (arith, any-third (pass-part (c .before .before .loop .inv) (c .before .loop-test .taken)))
 
-returns : tie.Need-returns Inv-loop μ-loop
+returns : tie.Need-returns-2 Inv-loop μ-loop
 returns c = record { is = λ v s. rw (rule5-parts v) (pass-done (c .before .loop .inv) (c .loop-test .left) v s) }
 
 pub unpaired-spec : {M : Type 1} → statement M
@@ -25,7 +25,9 @@ unpaired-spec =
     (tie.spec
     Inv-loop
     μ-loop
-    (λ c. pass-begin 5 own5 _ (c .before .before .pre))
+    (λ c κs. tt)
+    (λ c. rule5-clear _ (c .before .has-escape .ensures) (c .if1 .taken))
+    (λ c. pass-begin 5 own5 _ (c .before .before .before .before .pre))
     (λ c κs. pass-part (c .before .loop .inv) (c .loop-test .taken))
     add-k
     (λ c. omega arith)
