@@ -15,7 +15,7 @@ pub const PRETTY: Kind = kind("the same, pretty-printed", 0, |limit| {
 });
 
 /// The texts that might be slow.
-pub const WORST: [Kind; 15] = [
+pub const WORST: [Kind; 16] = [
     kind("one object of many names", 0, |limit| {
         largest(limit, usize::MAX, |n| names(n, short))
     }),
@@ -46,6 +46,9 @@ pub const WORST: [Kind; 15] = [
         largest(limit, 1023, |n| {
             family(n, "", |k| format!("{:a<20}{}", "", short(k)))
         })
+    }),
+    kind("IDs of one chain, contrived", 0, |limit| {
+        largest(limit, 1023, |n| family(n, "", alike))
     }),
     kind("a string of escapes", 0, |limit| {
         largest(limit, usize::MAX, |n| {
@@ -119,6 +122,13 @@ fn short(n: usize) -> String {
         left = (left - 1) / letters.len();
     }
     name
+}
+
+/// The n-th of 1,024 names that go to one chain: `Az` and `B?` have one number, 65 * 59 + 122 and 66 * 59 + 63.
+fn alike(n: usize) -> String {
+    (0..10)
+        .map(|place| ["Az", "B?"][n >> place & 1])
+        .collect()
 }
 
 /// A name of escapes only: four alike, and four that tell n.

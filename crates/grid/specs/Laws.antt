@@ -1,7 +1,7 @@
 -- Laws of the set: it begins empty, and has what was put in and nothing else. Assumes nothing.
 use Prim.Native.Nat.{ℕ, _+_, _*_, _/_, _%_, _^_, _≤_, _<_}
 use mathlib.Core.Path.{_≡_, refl, _∙_}
-use mathlib.Core.Bool.{Bool, true, false, _&&_, _||_}
+use mathlib.Core.Bool.{Bool, true, false, _&&_, _||_, or-true, and-false}
 use mathlib.Core.List.{List}
 use mathlib.Core.Logic.{_⊎_, inl, inr}
 use native.Mathlib.Nat.{zero-div}
@@ -14,14 +14,6 @@ use Rattle.grid.specs.Grid.{bit, holds, Puts}
 pub empty : (g : List ℕ) → ((i : ℕ) → getD g i 0 ≡ 0) → (a b : ℕ) → holds g a b ≡ false
 unfolding holds bit
 empty g z a b = rw (z (a * 128 + b / 8), zero-div (2 ^ (b % 8)))
-
-or-true : (c : Bool) → (c || true) ≡ true
-or-true true = refl
-or-true false = refl
-
-and-false : (c : Bool) → (c && false) ≡ false
-and-false true = refl
-and-false false = refl
 
 put-or-held : (c d t : Bool) (A B : Type 0) → (c ≡ true → A) → (d ≡ true → B) → ((c && d) || t) ≡ true → (A × B) ⊎ (t ≡ true)
 put-or-held true true t A B f g e = inl (f refl, g refl)

@@ -32,11 +32,11 @@ names-at (m ∷ ms) zero h = refl
 names-at (m ∷ ms) (suc k) h = names-at ms k (omega arith)
 
 module _ {x t : List ℕ} {ms : List Member} {offsets : List ℕ} {count : ℕ} (o : Offsets x t ms offsets count) where
-  names-all : length (namesOf ms) ≡ count
+  pub names-all : length (namesOf ms) ≡ count
   names-all = omega (arith, names-length ms, o .all)
 
   -- the k-th of them is the text at its node
-  name-is : {k : ℕ} → k < count → getD (namesOf ms) k [] ≡ textAt x t (getD offsets k 0)
+  pub name-is : {k : ℕ} → k < count → getD (namesOf ms) k [] ≡ textAt x t (getD offsets k 0)
   name-is {k} l = names-at ms k (omega (arith, o .all)) ∙ name-text (o .each k nobody l)
 
 -- ---- the texts from the k-th on

@@ -1,3 +1,3 @@
 -- What the proofs of several functions use.
 pub mod Rules
-mod Chains
+pub mod Chains

@@ -1,5 +1,5 @@
 -- Texts and city objects in the node table. Assumes nothing.
-use Prim.Native.Nat.{ℕ, zero, suc, _+_, _-_, _*_, _^_, _≤_, _<_}
+use Prim.Native.Nat.{ℕ, _+_, _-_, _*_, _^_, _≤_, _<_}
 use native.Mathlib.Omega.{arith}
 use mathlib.Core.Path.{_≡_, refl, sym, ap, _∙_}
 use mathlib.Core.Bool.{Bool, true, false, not}
@@ -18,6 +18,7 @@ use Rattle.json.specs.Laws.{words}
 use Rattle.nodes.specs.Access.{isStringValue, textOf, nameOf, Member}
 use Rattle.nodes.specs.Laws.{rawOf, string-at, text-at, quoted-at}
 use Rattle.nodes.specs.Parts.{textAt}
+use Rattle.nodes.proofs.Rule6.{zero-at}
 use Rattle.nodes.specs.Says.{Node, Gives}
 use Rattle.fields.specs.Says.{MemberAt}
 use Rattle.ids.specs.Says.{TextNode, Objects, MemberNode}
@@ -91,11 +92,6 @@ pub member-onward : {x t : List ℕ} {i : ℕ} → MemberNode x t i → length t
 member-onward d h = let w = words (d .stands .value) in record { fits = omega (arith, w .room) }
 
 -- ---- an array that was just made
-
-zero-at : (c n : ℕ) → _≡_ {A = ℕ} (getD (replicate n 0) c 0) 0
-zero-at c zero = refl
-zero-at zero (suc n) = refl
-zero-at (suc c) (suc n) = zero-at c n
 
 module _ {l : List ℕ} (n : ℕ) (q : l ≡ replicate n 0) where
   pub fresh-zero : (c : ℕ) → getD l c 0 ≡ 0

@@ -26,11 +26,12 @@ use Rattle.shapes.specs.Checks.{unless, isSome}
 use Rattle.fields.specs.Laws.{of-none, of-some}
 use Rattle.ids.specs.Says.{Offsets, Numbers, namesOf}
 use Rattle.ids.proofs.Rules.{nobody}
+use Rattle.ids.proofs.Chains.{names-all}
 use Rattle.links.specs.Links.{elementsIn, listedIn, idsAmong, idsIn}
 use Rattle.links.specs.Passes.{openAt, openIn, marks}
 use Rattle.links.specs.Says.{seen, Row, RowsTo, OpenGives, OpensGive}
 use Rattle.links.proofs.Marks.{among-marks, named-number}
-use Rattle.links.proofs.Marking.{count-names, named, string-at-node}
+use Rattle.links.proofs.Marking.{named, string-at-node}
 use Rattle.links.proofs.Split.{excused-none}
 use Rattle.links.proofs.Walk.{Walking, walk-begin, walk-turn, walk-done}
 
@@ -88,8 +89,8 @@ row-tells {x} {t} {k = k} {other} {own} {g} {ms} back id d o l m r q =
     let n : other ≡ numberOf (namesOf ms) (textAt x t k) = d .is ms o in
     let f : firstNamed (textAt x t k) ms ≡ some (getD ms other nobody .1) = rw n (named-number ms nobody (textAt x t k) (omega (arith, o .all))) in
     let vs = listedIn back (getD ms other nobody .1) in
-    r .done other nobody l .is own (omega (arith, count-names o))
-    ∙ (rw q (sym (among-marks (namesOf ms) (seen [] vs) id (omega (arith, count-names o)))) ∙ (among-all vs id ∙ ap (λ z. among (idsIn back z) id) (sym f)))
+    r .done other nobody l .is own (omega (arith, names-all o))
+    ∙ (rw q (sym (among-marks (namesOf ms) (seen [] vs) id (omega (arith, names-all o)))) ∙ (among-all vs id ∙ ap (λ z. among (idsIn back z) id) (sym f)))
 
 module _ {x t offsets : List ℕ} {count own k : ℕ} {b : Bool} {g : List ℕ} (s : Gives isStringValue x t k b) where
   pub open-other : (best : ℕ) → not b ≡ true → OpenGives x t offsets count own k g best best

@@ -5,7 +5,7 @@ use mathlib.Core.Path.{_≡_, refl, sym, ap, _∙_, subst}
 use mathlib.Core.Bool.{Bool, true, false, cond, not, _||_, _&&_}
 use mathlib.Core.List.{List, [], _∷_, _++_, map}
 use mathlib.Core.Option.{Option, none, some}
-use lib.ListN.{length, getD, length-map}
+use lib.ListN.{length, getD}
 use lib.Dec.{eqb, ltb}
 use borrow.Author.Tests.{not-true, not-false, lt-ltb, le-ltb, ne-eqb, eq-eqb, eqb-true, eqb-false}
 use Rattle.grid.specs.Grid.{holds, Puts}
@@ -25,6 +25,7 @@ use Rattle.shapes.specs.Checks.{unless, isSome}
 use Rattle.shapes.specs.Laws.{unless-true}
 use Rattle.ids.specs.Says.{Offsets, Objects, Numbers, namesOf}
 use Rattle.ids.proofs.Rules.{string-text}
+use Rattle.ids.proofs.Chains.{names-all}
 use Rattle.links.specs.Links.{elementsIn, idsAmong}
 use Rattle.links.specs.Passes.{absentAt, absent, marks}
 use Rattle.links.specs.Says.{seen, Row, Beside, MarkGives, MarksGive}
@@ -80,11 +81,6 @@ absent-by : (b : ℕ) (ms : List Member) (earlier : List (List ℕ)) (v : Json) 
 unfolding absentAt
 absent-by b ms earlier v u kept z q k = rw (z, q, ← k)
 
--- as many IDs as objects
-pub count-names : {x t offsets : List ℕ} {count : ℕ} {ms : List Member} → Offsets x t ms offsets count → length (namesOf ms) ≡ count
-unfolding namesOf
-count-names {ms = ms} o = length-map ms nameOf ∙ sym (o .all)
-
 -- the object of the string at the node k is there if its number is below the count
 pub named : {x t offsets : List ℕ} {count k other : ℕ} {ms : List Member} → Numbers x t offsets count k other → Offsets x t ms offsets count → isSome (firstNamed (textAt x t k) ms) ≡ ltb other count
 unfolding namesOf
@@ -114,13 +110,13 @@ module _ {x t offsets : List ℕ} {count row k : ℕ} {b : Bool} {g : List ℕ} 
 
     -- no object has the ID
     pub mark-absent : {best r : ℕ} → count ≤ other → Gives (λ v. least best (unless false 15 v)) x t k r → MarkGives x t offsets count row k g g best r
-    mark-absent l e = by false e (beside-same g row) (λ ms o earlier r. (rw (named d o, le-ltb other count l), row-absent r (omega (arith, count-names o, d .is ms o))))
+    mark-absent l e = by false e (beside-same g row) (λ ms o earlier r. (rw (named d o, le-ltb other count l), row-absent r (omega (arith, names-all o, d .is ms o))))
 
     module _ (l : other < count) {f : Bool} (i : f ≡ holds g row other) where
       earlier-is : {ms : List Member} {earlier : List (List ℕ)} → Offsets x t ms offsets count → Row (namesOf ms) g row earlier → among earlier (textAt x t k) ≡ f
       earlier-is {ms} {earlier} o r =
-          among-marks (namesOf ms) earlier (textAt x t k) (omega (arith, count-names o, d .is ms o))
-          ∙ (sym (r .is (numberOf (namesOf ms) (textAt x t k)) (omega (arith, count-names o, d .is ms o))) ∙ (ap (holds g row) (sym (d .is ms o)) ∙ sym i))
+          among-marks (namesOf ms) earlier (textAt x t k) (omega (arith, names-all o, d .is ms o))
+          ∙ (sym (r .is (numberOf (namesOf ms) (textAt x t k)) (omega (arith, names-all o, d .is ms o))) ∙ (ap (holds g row) (sym (d .is ms o)) ∙ sym i))
 
       -- it was listed before
       pub mark-again : {best r : ℕ} → f ≡ true → Gives (λ v. least best (unless false 15 v)) x t k r → MarkGives x t offsets count row k g g best r
@@ -128,7 +124,7 @@ module _ {x t offsets : List ℕ} {count row k : ℕ} {b : Bool} {g : List ℕ} 
 
       -- it was not, and is put in
       pub mark-new : (best : ℕ) {g′ : List ℕ} → f ≡ false → Puts g g′ row other → row * 128 + 128 ≤ length g → Objects x t offsets count → MarkGives x t offsets count row k g g′ best best
-      mark-new best q p m a = by true (record { is = λ v w. unless-true best 15 v refl }) (beside-put p) (λ ms o earlier r. (rw (named d o, lt-ltb other count l, earlier-is o r, q), row-new r (d .is ms o) p m (omega (arith, count-names o, o .few))))
+      mark-new best q p m a = by true (record { is = λ v w. unless-true best 15 v refl }) (beside-put p) (λ ms o earlier r. (rw (named d o, lt-ltb other count l, earlier-is o r, q), row-new r (d .is ms o) p m (omega (arith, names-all o, o .few))))
 
 -- ---- a list
 

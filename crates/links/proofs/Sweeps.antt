@@ -1,11 +1,11 @@
 -- The objects one after the other: first rule 15, which fills the rows, then rules 16 and 17. Assumes nothing.
-use Prim.Native.Nat.{ℕ, zero, suc, _+_, _*_, _≤_, _<_}
+use Prim.Native.Nat.{ℕ, _+_, _*_, _≤_, _<_}
 use Prim.Native.String.{String}
 use native.Mathlib.Omega.{arith}
 use native.Mathlib.Numerals.{add-one}
 use mathlib.Core.Path.{_≡_, refl, sym, ap, _∙_}
-use mathlib.Core.Bool.{Bool, true, false, not, _&&_}
-use mathlib.Core.List.{List, [], _∷_, _++_, map}
+use mathlib.Core.Bool.{Bool, true, false, not, _&&_, and-false}
+use mathlib.Core.List.{List, [], _∷_, _++_}
 use mathlib.Core.Option.{Option, none, some}
 use lib.ListN.{length, getD, drop, drop-of-length-le}
 use lib.Seq.{drop-cons}
@@ -30,11 +30,11 @@ use Rattle.fields.specs.Fields.{textIn, countIn, typeText, objectsOf}
 use Rattle.fields.specs.declared.Index.{Index}
 use Rattle.ids.specs.Says.{Offsets, Objects, Numbers, namesOf}
 use Rattle.ids.proofs.Rules.{nobody, name-text}
+use Rattle.ids.proofs.Chains.{names-all, name-is}
 use Rattle.links.specs.Links.{elementsIn, listedIn, isEmpty, hasParent, linksOfEach, linkFaults}
 use Rattle.links.specs.Passes.{absent, openIn, absentOf, openOf, absentOfEach, openOfEach, marks}
 use Rattle.links.specs.Says.{Numbered, seen, Row, Beside, MarksGive, RowsTo, ObjectMarks, AllMarks, Filled, OpensGive, ObjectOpens, AllOpens, Empty, AllGive, Ready, LinksGive}
 use Rattle.links.proofs.Marks.{number-own}
-use Rattle.links.proofs.Marking.{count-names}
 use Rattle.links.proofs.Split.{split-objects}
 
 -- ---- rows
@@ -76,7 +76,7 @@ object-marks {x} {t} {offsets} {count} {k} {c} {c′} {p} {p′} {best} {a} {r} 
   is = λ ms o d rc rp.
       let q : count ≡ length ms = o .all in
       let f : count ≤ 1024 = o .few in
-      let w : length (namesOf ms) ≡ length ms = count-names o ∙ q in
+      let w : length (namesOf ms) ≡ length ms = names-all o ∙ q in
       let down : (d : Member) → (a ≡ least best (absent ms [] (listedIn "children" (getD ms k d .1)))) × (Row (namesOf ms) c′ k (seen [] (listedIn "children" (getD ms k d .1)))) = λ d. m .is ms o (rc .left k (omega arith) (omega arith)) (find "children" (getD ms k d .1)) (s .finds _ (o .each k d l .value)) in
       let up : (d : Member) → (r ≡ least a (absent ms [] (listedIn "parents" (getD ms k d .1)))) × (Row (namesOf ms) p′ k (seen [] (listedIn "parents" (getD ms k d .1)))) = λ d. n .is ms o (rp .left k (omega arith) (omega arith)) (find "parents" (getD ms k d .1)) (u .finds _ (o .each k d l .value)) in
       let e : r ≡ least best (absent ms [] (listedIn "children" (getD ms k d .1)) ++ absent ms [] (listedIn "parents" (getD ms k d .1))) = up d .0 ∙ (ap (λ (z : ℕ). least z (absent ms [] (listedIn "parents" (getD ms k d .1)))) (down d .0) ∙ sym (least-++ best _ _)) in
@@ -154,10 +154,6 @@ parent-parts v = refl
 parent-by : (best : ℕ) (v : Json) (code count : ℕ) → code ≡ codeOf objectWords (typeText v) → count ≡ countIn (find "parents" v) → least best (unless (not (ltb 16 code && eqb count 0)) 16 v) ≡ least best (hasParent v)
 parent-by best v code count c n = rw (parent-parts v, ← c, empty-count (find "parents" v), ← n)
 
-and-none : (b : Bool) → (b && false) ≡ false
-and-none true = refl
-and-none false = refl
-
 -- below the second level
 first-level : (code : ℕ) → not (ltb 16 code && eqb 0 0) ≡ ltb code 17
 first-level code = of (ltb code 17) refl
@@ -171,7 +167,7 @@ module _ {x t : List ℕ} {i : ℕ} {parents : Found} (best : ℕ) {count : ℕ}
   count-is {v} s = n .is (find "parents" v) (p .finds v s)
 
   kept : (code : ℕ) → (count ≡ 0 → ⊥) → not (ltb 16 code && eqb count 0) ≡ true
-  kept code h = rw (ne-eqb count 0 h, and-none (ltb 16 code))
+  kept code h = rw (ne-eqb count 0 h, and-false (ltb 16 code))
 
   pub parent-some : (count ≡ 0 → ⊥) → Gives (λ v. least best (hasParent v)) x t i best
   parent-some h = record { is = λ v s. unless-true best 16 v (kept (codeOf objectWords (typeText v)) h) ∙ parent-by best v (codeOf objectWords (typeText v)) count refl (count-is s) }
@@ -182,21 +178,12 @@ module _ {x t : List ℕ} {i : ℕ} {parents : Found} (best : ℕ) {count : ℕ}
 
 -- ---- rules 16 and 17
 
-names-at : (ms : List Member) (k : ℕ) (d : Member) → k < length ms → getD (map nameOf ms) k [] ≡ nameOf (getD ms k d)
-names-at [] k d h = absurd (omega arith)
-names-at (m ∷ ms) zero d h = refl
-names-at (m ∷ ms) (suc k) d h = names-at ms k d (omega arith)
-
 -- an object's own ID has a number below the count
 pub own-below : {x t offsets : List ℕ} {count k own : ℕ} → Objects x t offsets count → Numbers x t offsets count (getD offsets k 0) own → k < count → own < count
-unfolding namesOf
-own-below {x} {t} {offsets} {count} {k} {own} s d l =
-    let ms = s .members in
-    let o = s .stand in
-    let q : count ≡ length ms = o .all in
-    let e : textAt x t (getD offsets k 0) ≡ getD (map nameOf ms) k [] = sym (names-at ms k nobody (omega arith) ∙ name-text (o .each k nobody l)) in
-    let n : own ≡ numberOf (map nameOf ms) (getD (map nameOf ms) k []) = d .is ms o ∙ ap (numberOf (map nameOf ms)) e in
-    omega (arith, number-own (map nameOf ms) k (omega (arith, count-names o)))
+own-below {count = count} {k} {own} s d l =
+    let names = namesOf (s .members) in
+    let n : own ≡ numberOf names (getD names k []) = d .is (s .members) (s .stand) ∙ ap (numberOf names) (sym (name-is (s .stand) l)) in
+    omega (arith, number-own names k (omega (arith, names-all (s .stand))))
 
 open-parts : (ms : List Member) (m : Member) → openOf ms m ≡ ((openIn ms "parents" (nameOf m) (same (ascii "CityObjectGroup") (textIn (find "type" (m .1)))) (elementsIn (find "children" (m .1))) ++ openIn ms "children" (nameOf m) false (elementsIn (find "parents" (m .1)))) ++ hasParent (m .1))
 unfolding openOf listedIn is typeText

@@ -53,16 +53,16 @@ module _ {all h : ℕ} {l : List ℕ} (c : Hashing all l h) where
   unfolding hashFrom
   hashing-end q = let e = c .goes in sym (rw q at e)
 
-  hashing-more : (b : ℕ) (m : List ℕ) (r : ℕ) → l ≡ b ∷ m → r ≡ (h * 31 + b) % 67108864 → r < 67108864 → Hashing all m r
+  hashing-more : (b : ℕ) (m : List ℕ) (r : ℕ) → l ≡ b ∷ m → r ≡ (h * 59 + b) % 67108864 → r < 67108864 → Hashing all m r
   unfolding hashFrom
-  hashing-more b m r q z s = let e = c .goes in let f : all ≡ hashFrom ((h * 31 + b) % 67108864) m = rw q at e in record { goes = rw z f; small = s }
+  hashing-more b m r q z s = let e = c .goes in let f : all ≡ hashFrom ((h * 59 + b) % 67108864) m = rw q at e in record { goes = rw z f; small = s }
 
 -- at a byte of the text
 module _ {x : List ℕ} {at end : ℕ} (s : Span x at end) {all h : ℕ} (c : Hashing all (decodeAt x at end) h) where
   pub plain-end : end ≤ at → h ≡ all
   plain-end l = hashing-end c (at-end s l)
 
-  pub plain-more : {r : ℕ} → at < end → (getD x at 0 ≡ 92 → ⊥) → r ≡ (h * 31 + getD x at 0) % 67108864 → r < 67108864 → Hashing all (decodeAt x (at + 1) end) r
+  pub plain-more : {r : ℕ} → at < end → (getD x at 0 ≡ 92 → ⊥) → r ≡ (h * 59 + getD x at 0) % 67108864 → r < 67108864 → Hashing all (decodeAt x (at + 1) end) r
   plain-more l n = hashing-more c _ _ _ (at-plain s l n)
 
   pub plain-rest : {r : ℕ} → r ≡ hashFrom h (ahead x (record { at = at; end = end; word = 0; left = 0 })) → r ≡ all
@@ -85,7 +85,7 @@ module _ (x m : List ℕ) (n : ℕ) (s : Step) (h : Steps x m n s) where
     pub step-nearer : away d < n
     step-nearer = hands .nearer
 
-    pub step-more : {all g r : ℕ} → Hashing all m g → r ≡ (g * 31 + b) % 67108864 → r < 67108864 → Hashing all (ahead x d) r
+    pub step-more : {all g r : ℕ} → Hashing all m g → r ≡ (g * 59 + b) % 67108864 → r < 67108864 → Hashing all (ahead x d) r
     step-more c = hashing-more c _ _ _ (hands .first)
 
 pub chain-is : (l : List ℕ) (h r : ℕ) → h ≡ hashFrom 0 l → r ≡ h % 4096 → r ≡ chainOf l

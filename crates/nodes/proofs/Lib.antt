@@ -3,6 +3,6 @@ mod Firsts
 mod Loops
 mod Passes
 mod Rule5
-mod Rule6
+pub mod Rule6
 mod Hashes
 mod Links

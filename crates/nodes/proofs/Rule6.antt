@@ -219,15 +219,16 @@ pub record Threads (x t ls hs : List ℕ) (i first n b₀ k b : ℕ) : Type 0 wh
   pub links : length ls ≡ 32784
   heads : length hs ≡ 4096
 
-getD-replicate : (c n : ℕ) → _≡_ {A = ℕ} (getD (replicate n 0) c 0) 0
-getD-replicate c zero = refl
-getD-replicate zero (suc n) = refl
-getD-replicate (suc c) (suc n) = getD-replicate c n
+-- an array that was just made
+pub zero-at : (c n : ℕ) → _≡_ {A = ℕ} (getD (replicate n 0) c 0) 0
+zero-at c zero = refl
+zero-at zero (suc n) = refl
+zero-at (suc c) (suc n) = zero-at c n
 
 module _ {x t : List ℕ} {i : ℕ} where
   pub thread-begin : {n : ℕ} (b : ℕ) {ls : List ℕ} (hs : List ℕ) → LongObject x t ls i → n ≡ getD t (i + 2) 0 → hs ≡ replicate 4096 0 → Threads x t ls hs i (i + 3) n b (i + 3) b
   thread-begin b {ls} hs d o z =
-      record { sweeps = begin b (d .some) refl (d .brace) o (chains-begin x t ls hs (i + 3) (λ c. ap (λ (l : List ℕ). getD l c 0) z ∙ getD-replicate c 4096) (omega arith)); few = rw o (d .ends); links = d .links; heads = ap length z ∙ length-replicate {A = ℕ} 4096 0 }
+      record { sweeps = begin b (d .some) refl (d .brace) o (chains-begin x t ls hs (i + 3) (λ c. ap (λ (l : List ℕ). getD l c 0) z ∙ zero-at c 4096) (omega arith)); few = rw o (d .ends); links = d .links; heads = ap length z ∙ length-replicate {A = ℕ} 4096 0 }
 
   module _ {first n b₀ k b : ℕ} {ls hs : List ℕ} (c : Threads x t ls hs i first n b₀ k b) where
     pub thread-name : k < n → ChainAt x t ls hs k

@@ -13,7 +13,7 @@ use Rattle.nodes.specs.Parts.{AnyPart, textAt}
 -- a number of some bytes, where those before them have the number h
 unfoldable pub hashFrom : ℕ → List ℕ → ℕ
 hashFrom h [] = h
-hashFrom h (b ∷ l) = hashFrom ((h * 31 + b) % 67108864) l
+hashFrom h (b ∷ l) = hashFrom ((h * 59 + b) % 67108864) l
 
 -- the chain that a text goes to
 unfoldable pub chainOf : List ℕ → ℕ

@@ -227,9 +227,9 @@ fn wide_byte(b: u8) -> u32
 // The number of some bytes, with one byte more.
 fn mixed(h: u32, b: u8) -> u32
     requires { ⌜ h < 67108864 ⌝ }
-    ensures { λ r. ⌜ (r ≡ (h * 31 + b) % 67108864) × (r < 67108864) ⌝ }
+    ensures { λ r. ⌜ (r ≡ (h * 59 + b) % 67108864) × (r < 67108864) ⌝ }
 {
-    (h * 31 + wide_byte(b)) % 67108864
+    (h * 59 + wide_byte(b)) % 67108864
 }
 
 // The number of the bytes that the cursor has ahead, where those before have the number `seed`.
