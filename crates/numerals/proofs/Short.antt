@@ -4,7 +4,7 @@ use native.Mathlib.Omega.{arith}
 use native.Mathlib.Nat.{pow-suc, pow-le-pow-right, mul-le-mul-right, mul-assoc, mul-comm, le-trans}
 use native.Mathlib.Numerals.{add-one}
 use mathlib.Core.Path.{_≡_, refl, sym, ap, _∙_}
-use mathlib.Core.Bool.{Bool, true, false, cond, _&&_, _||_, not}
+use mathlib.Core.Bool.{Bool, true, false, cond, _&&_, _||_, not, and-false}
 use mathlib.Core.List.{List, [], _∷_, _++_}
 use lib.ListN.{length, getD}
 use lib.Seq.{slice, length-slice}
@@ -12,10 +12,10 @@ use lib.Dec.{eqb, ltb}
 use lib.IntN.{pos}
 use mir.Syntax.{w64}
 use mir.Val.{Fits}
-use borrow.Author.Tests.{ne-eqb, lt-ltb}
+use borrow.Author.Tests.{ne-eqb, eq-eqb, lt-ltb, le-ltb}
 use Rattle.numerals.specs.Numerals.{isDigit, isPoint, isLetter, isInteger, integer, digits, natural, negative, signed, fits32}
 use Rattle.numerals.specs.Laws.{digit-low, digit-high}
-use Rattle.numerals.specs.Reading.{allDigits, Quick, Short}
+use Rattle.numerals.specs.Reading.{allDigits, quickOf, isShort, Quick, Short}
 use Rattle.numerals.proofs.Bytes.{bytes, slice-next, slice-out, digits-more, digits-same}
 
 clash : false ≡ true → ⊥
@@ -89,16 +89,24 @@ pub quickly-start : (text : List ℕ) (at end : ℕ) → at ≤ end → Quickly 
 quickly-start text at end h = let z : at - at ≡ 0 = omega arith in record { plain = digital-start text at end h; low = omega arith; few = rw z (omega arith); same = refl }
 
 -- a number that is none
-pub quick-none : (raw : List ℕ) → Quick raw 18446744073709551615
-quick-none raw = record { whole = λ l. absurd (omega arith); value = λ l. absurd (omega arith) }
+quick-none : (raw : List ℕ) → ltb (length raw) 10 && allDigits raw ≡ false → Quick raw 18446744073709551615
+unfolding quickOf
+quick-none raw e = record { is = rw e; whole = λ l. absurd (omega arith); value = λ l. absurd (omega arith) }
+
+pub quick-long : (text : List ℕ) (at end : ℕ) → end ≤ length text → 9 < end - at → Quick (slice at end text) 18446744073709551615
+quick-long text at end k h = quick-none (slice at end text) (rw (le-ltb (length (slice at end text)) 10 (omega (arith, length-slice at end text k))))
 
 module _ {text : List ℕ} {at end n i : ℕ} (p : Quickly text at end n i) where
-  pub quickly-end : end ≤ i → Quick (slice at end text) n
-  unfolding digits natural
-  quickly-end h =
+  pub quickly-other : i < end → end ≤ length text → false ≡ isDigit (getD text i 0) → Quick (slice at end text) 18446744073709551615
+  quickly-other h k e = quick-none (slice at end text) (rw (← digital-not (p .plain) h k e) (and-false (ltb (length (slice at end text)) 10)))
+
+  pub quickly-end : end ≤ i → end - at ≤ 9 → end ≤ length text → Quick (slice at end text) n
+  unfolding digits natural quickOf
+  quickly-end h s k =
       let e : natural n (digits (slice i end text)) ≡ n = rw (slice-out text i end (p .plain .high) h) in
       let a = sym (digital-end (p .plain) h) in
-      record { whole = λ l. digits-whole (slice at end text) a; value = λ l. digits-value (slice at end text) n a (sym e ∙ p .same) }
+      let l : ltb (length (slice at end text)) 10 ≡ true = lt-ltb (length (slice at end text)) 10 (omega (arith, length-slice at end text k)) in
+      record { is = rw (l, a) (sym e ∙ p .same); whole = λ l. digits-whole (slice at end text) a; value = λ l. digits-value (slice at end text) n a (sym e ∙ p .same) }
 
   module _ (h : i < end) (s : end - at ≤ 9) where
     quickly-small : n < 1000000000
@@ -162,22 +170,42 @@ unfolding integer
 short-fits raw h = small-fits (negative raw) (natural 0 (digits raw)) (short-number raw h)
 
 -- bytes that are none
-pub short-none : (raw : List ℕ) → Short raw false
-short-none raw = record { whole = λ e. absurd (clash e); fits = λ e. absurd (clash e) }
+short-none : (raw : List ℕ) → isShort raw ≡ false → Short raw false
+short-none raw e = record { is = sym e; whole = λ e. absurd (clash e); fits = λ e. absurd (clash e) }
 
-module _ (text : List ℕ) (at end : ℕ) (k : end ≤ length text) (s : end - at ≤ 9) where
+long-not : (raw : List ℕ) → 9 < length raw → isShort raw ≡ false
+unfolding isShort
+long-not [] h = refl
+long-not (b ∷ s) h = rw (le-ltb (length (b ∷ s)) 10 (omega arith))
+
+pub short-long : (text : List ℕ) (at end : ℕ) → end ≤ length text → 9 < end - at → Short (slice at end text) false
+short-long text at end k h = short-none (slice at end text) (long-not (slice at end text) (omega (arith, length-slice at end text k)))
+
+pub short-empty : (text : List ℕ) (at end : ℕ) → at ≡ end → Short (slice at end text) false
+unfolding isShort
+short-empty text at end q = short-none (slice at end text) (ap isShort (slice-out text at end (omega arith) (omega arith)))
+
+module _ (text : List ℕ) (at end : ℕ) (k : end ≤ length text) (s : end - at ≤ 9) (h : at ≤ end) (n : at ≡ end → ⊥) where
   fits-so : fits32 (integer (slice at end text)) ≡ true
   fits-so = short-fits (slice at end text) (omega (arith, length-slice at end text k))
 
-  pub short-plus : {r : Bool} → r ≡ allDigits (slice at end text) → Short (slice at end text) r
-  short-plus e = record { whole = λ q. digits-whole (slice at end text) (sym e ∙ q); fits = λ q. fits-so }
+  next : slice at end text ≡ getD text at 0 ∷ slice (at + 1) end text
+  next = slice-next text at end (omega arith) k
 
-  pub short-minus : {r : Bool} → at ≤ end → (at ≡ end → ⊥) → getD text at 0 ≡ 45 → r ≡ allDigits (slice (at + 1) end text) → Short (slice at end text) r
-  unfolding isInteger
-  short-minus h n b e =
+  few : ltb (length (getD text at 0 ∷ slice (at + 1) end text)) 10 ≡ true
+  few = lt-ltb (length (getD text at 0 ∷ slice (at + 1) end text)) 10 (omega (arith, length-slice at end text k, ap length next))
+
+  pub short-plus : {r : Bool} → (getD text at 0 ≡ 45 → ⊥) → r ≡ allDigits (slice at end text) → Short (slice at end text) r
+  unfolding isShort
+  short-plus b e = record { is = e ∙ (ap allDigits next ∙ sym (ap isShort next ∙ rw (few, ne-eqb (getD text at 0) 45 b))); whole = λ q. digits-whole (slice at end text) (sym e ∙ q); fits = λ q. fits-so }
+
+  pub short-minus : {r : Bool} → getD text at 0 ≡ 45 → r ≡ allDigits (slice (at + 1) end text) → Short (slice at end text) r
+  unfolding isShort isInteger
+  short-minus b e =
       record {
-        whole = λ q. rw (slice-next text at end (omega arith) k, b) (digits-whole (slice (at + 1) end text) (sym e ∙ q));
+        is = e ∙ sym (ap isShort next ∙ rw (few, eq-eqb (getD text at 0) 45 b));
+        whole = λ q. rw (next, b) (digits-whole (slice (at + 1) end text) (sym e ∙ q));
         fits = λ q. fits-so;
       }
 
-pub ruleset short = (bytes, digital-start, digital-end, digital-not, digital-more, quickly-start, quickly-end, quickly-times, quickly-plus, quickly-more, quick-none, short-none, short-plus, short-minus)
+pub ruleset short = (bytes, digital-start, digital-end, digital-not, digital-more, quickly-start, quickly-other, quickly-end, quickly-times, quickly-plus, quickly-more, quick-long, short-long, short-empty, short-plus, short-minus)

@@ -5,6 +5,8 @@ use mathlib.Core.Path.{_≡_}
 use mathlib.Core.Bool.{Bool, true, false, cond, _&&_, _||_}
 use mathlib.Core.Option.{Option, none, some}
 use mathlib.Core.List.{List, [], _∷_}
+use lib.ListN.{length}
+use lib.Dec.{eqb, ltb}
 use lib.Seq.{slice}
 use lib.IntN.{ℤ, pos, natAbs, _+ℤ_, _-ℤ_}
 use Rattle.numerals.specs.Numerals.{Decimal, isDigit, isPoint, isLetter, isInteger, integer, fits32, digits, natural, negative, signed, mantissa, after}
@@ -37,13 +39,26 @@ unfoldable pub allDigits : List ℕ → Bool
 allDigits [] = true
 allDigits (b ∷ s) = isDigit b && allDigits s
 
--- r is the value of an integer, unless it is 2^64 - 1
+-- the number that at most nine digits write; 2^64 - 1 for other bytes
+unfoldable pub quickOf : List ℕ → ℕ
+unfolding allDigits digits natural
+quickOf raw = cond (ltb (length raw) 10 && allDigits raw) (natural 0 (digits raw)) (2 ^ 64 - 1)
+
+-- is it a minus sign, or none, and digits, at most nine bytes in all?
+unfoldable pub isShort : List ℕ → Bool
+unfolding allDigits
+isShort [] = false
+isShort (b ∷ s) = ltb (length (b ∷ s)) 10 && cond (eqb b 45) (allDigits s) (allDigits (b ∷ s))
+
+-- r is that number, and the value of an integer unless it is 2^64 - 1
 pub record Quick (raw : List ℕ) (r : ℕ) : Type 0 where
+  pub is : r ≡ quickOf raw
   pub whole : r < 2 ^ 64 - 1 → isInteger raw ≡ true
   pub value : r < 2 ^ 64 - 1 → integer raw ≡ pos r
 
--- if r is true, the bytes are an integer that lies within 32 signed bits
+-- r tells whether the bytes are short, and if they are, they are an integer that lies within 32 signed bits
 pub record Short (raw : List ℕ) (r : Bool) : Type 0 where
+  pub is : r ≡ isShort raw
   pub whole : r ≡ true → isInteger raw ≡ true
   pub fits : r ≡ true → fits32 (integer raw) ≡ true
 
