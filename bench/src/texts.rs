@@ -15,7 +15,7 @@ pub const PRETTY: Kind = kind("the same, pretty-printed", 0, |limit| {
 });
 
 /// The texts that might be slow.
-pub const WORST: [Kind; 16] = [
+pub const WORST: [Kind; 17] = [
     kind("one object of many names", 0, |limit| {
         largest(limit, usize::MAX, |n| names(n, short))
     }),
@@ -49,6 +49,9 @@ pub const WORST: [Kind; 16] = [
     }),
     kind("IDs of one chain, contrived", 0, |limit| {
         largest(limit, 1023, |n| family(n, "", alike))
+    }),
+    kind("names of one chain, contrived", 0, |limit| {
+        largest(limit, 4096, |n| names(n, alike))
     }),
     kind("a string of escapes", 0, |limit| {
         largest(limit, usize::MAX, |n| {
@@ -124,11 +127,9 @@ fn short(n: usize) -> String {
     name
 }
 
-/// The n-th of 1,024 names that go to one chain: `Az` and `B?` have one number, 65 * 59 + 122 and 66 * 59 + 63.
+/// The n-th of 4,096 names that go to one chain: `Az` and `B?` have one number, 65 * 59 + 122 and 66 * 59 + 63.
 fn alike(n: usize) -> String {
-    (0..10)
-        .map(|place| ["Az", "B?"][n >> place & 1])
-        .collect()
+    (0..12).map(|place| ["Az", "B?"][n >> place & 1]).collect()
 }
 
 /// A name of escapes only: four alike, and four that tell n.

@@ -1,4 +1,5 @@
--- The faults of links in the order in which they are found: those of rule 15 first, then those of rules 16 and 17. Assumes nothing: these are definitions.
+-- The faults of links in the order in which they are found: those of rule 15 first, then those of rules 16 and 17. Only contracts of private functions cite them: that together they are those of Links is `split-objects` in the proofs.
+-- Assumes nothing: these are definitions.
 use Prim.Native.Nat.{ℕ}
 use Prim.Native.String.{String}
 use mathlib.Core.Bool.{Bool, false, cond, not, _&&_, _||_}
@@ -22,7 +23,7 @@ unfoldable pub absent : List Member → List (List ℕ) → List Json → List �
 absent objects earlier [] = []
 absent objects earlier (s ∷ ss) = absentAt objects earlier s ++ absent objects (idsAmong (s ∷ []) ++ earlier) ss
 
--- rule 17 of one value of a list of the object `id`, whose other side is listed under `back`
+-- rule 17 of one value of a list of the object `id`, whose other side is listed under `back`: a link is open if the other side does not list it
 unfoldable pub openAt : List Member → String → List ℕ → Bool → Json → List ℕ
 openAt objects back id excused s = cond (isStringValue s) (unless (excused || among (idsIn back (firstNamed (textOf s) objects)) id) 17 s) []
 
