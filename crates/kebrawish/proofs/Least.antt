@@ -45,6 +45,10 @@ nothing lo hi b (f ∷ fs) a h = absurd (omega (arith, a .0 .1, least-best (min 
 
 -- ---- lists with no element
 
+unmapped : (f : ℕ → ℕ) (l : List ℕ) → map f l ≡ [] → l ≡ []
+unmapped f [] e = refl
+unmapped f (a ∷ l) e = cc
+
 -- ---- a tree
 
 -- the passes of the rules 5 to 14, one after the other
@@ -69,7 +73,11 @@ module _ (v : Json) (d : Placed v) where
       of (inr k) (inl e) = sym e
       of (inr k) (inr l) = absurd (omega (arith, k .1, l .0, least-best c (linkFaults v)))
 
-  -- no fault of the rules 5 to 14: none of the schema
+  -- no fault of the rules 5 to 14: none of rule 6
+  pub no-repeat : {c : ℕ} → c ≡ least none (early v) → none ≤ c → rule6 v ≡ []
+  no-repeat p h = unmapped (fault 6) (rule6 v) (nil-right (map (fault 5) (rule5 v)) _ (nil-left _ (cityJson v) (nothing 5 15 none (early v) (early-among v d) (omega arith))))
+
+  -- and none of the schema
   pub no-schema : {c : ℕ} → c ≡ least none (early v) → none ≤ c → cityJson v ≡ []
   no-schema p h = nil-right (map (fault 5) (rule5 v) ++ map (fault 6) (rule6 v)) (cityJson v) (nothing 5 15 none (early v) (early-among v d) (omega arith))
 

@@ -31,7 +31,8 @@ use Rattle.kebrawish.specs.declared.Opened.the-variants as opened
 use Rattle.kebrawish.specs.declared.Verdict.{Verdict}
 use Rattle.kebrawish.specs.declared.Verdict.the-variants.{Accepted, Refused}
 use Rattle.kebrawish.specs.Answers.{numberOf, refusal, told, Room, Screens, Stands, Opens, Examined}
-use Rattle.kebrawish.proofs.Least.{early-passes, all-passes, before-links, no-schema, no-fault, from-five, judged-fault, judged-none, few-objects, few-clean}
+use Rattle.kebrawish.proofs.Alone.{alone}
+use Rattle.kebrawish.proofs.Least.{early-passes, all-passes, before-links, no-repeat, no-schema, no-fault, from-five, judged-fault, judged-none, few-objects, few-clean}
 
 -- ---- rules 1 and 2
 
@@ -121,7 +122,7 @@ module _ {x t : List ℕ} {n a b : ℕ} {w : Walked} (s : Stands x t n) (five : 
   few h = few-objects (s .value) (no-schema (s .value) placed walked h)
 
   pub examine-ready : none ≤ w .least → Ready x t (w .index)
-  examine-ready h = record { value = s .value; stands = s .stands; short = s .short; few = few h; indexed = index .is }
+  examine-ready h = record { value = s .value; stands = s .stands; short = s .short; few = few h; indexed = index .is; alone = alone (s .value) (no-repeat (s .value) placed walked h) }
 
   pub examine-late : {d : ℕ} → none ≤ w .least → LinksGive x t (w .least) d → Examined x t (record { index = w .index; least = d })
   examine-late h g = examined s index (all-passes (s .value) walked (g .is (s .value) (s .stands) (few h)))

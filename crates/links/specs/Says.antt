@@ -112,6 +112,8 @@ pub record Ready (x t : List ℕ) (index : Index) : Type 0 where
   pub short : length x ≤ 65535
   pub few : length (objectsOf value) ≤ 1024
   pub indexed : (v : Json) → Sub x t 0 v → Indexed x t (objectsOf v) index
+  -- no two city objects have the same ID (rule 6)
+  pub alone : (k : ℕ) → k < length (objectsOf value) → numberOf (namesOf (objectsOf value)) (getD (namesOf (objectsOf value)) k []) ≡ k
 
 -- r is the least of best and the faults of the links of the value that stands at the node 0, if it has at most 1,024 city objects
 pub record LinksGive (x t : List ℕ) (best r : ℕ) : Type 0 where
