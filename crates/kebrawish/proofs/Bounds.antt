@@ -15,15 +15,17 @@ use Rattle.sheets.specs.Laid.{sheetOfText, fitted, answer}
 use Rattle.sheets.specs.Laid as laid
 use Rattle.sheets.specs.Answers.{of-laid}
 use Rattle.sheets.specs.Theorems.{sizes}
-use Rattle.kebrawish.specs.declared.Answer as laid-answer
-use Rattle.kebrawish.specs.declared.Answer.the-variants as answers
-use Rattle.kebrawish.specs.declared.Broken.{Broken}
-use Rattle.kebrawish.specs.declared.Broken.the-variants as broken
-use Rattle.kebrawish.specs.declared.Refusal.{Refusal}
-use Rattle.kebrawish.specs.declared.Verdict.{Verdict as Answer}
-use Rattle.kebrawish.specs.declared.Verdict.the-variants.{Accepted, Refused}
-use Rattle.kebrawish.specs.Answers.{numberOf, told, answered}
-use Rattle.kebrawish.proofs.Least.{few-clean}
+use Rattle.refusals.specs.Refusals.{numberOf}
+use Rattle.refusals.specs.declared.Broken.{Broken}
+use Rattle.refusals.specs.declared.Broken.the-variants as broken
+use Rattle.refusals.specs.declared.Refusal.{Refusal}
+use Rattle.judging.specs.declared.Verdict.{Verdict as Answer}
+use Rattle.judging.specs.declared.Verdict.the-variants.{Accepted, Refused}
+use Rattle.judging.specs.Judging.{told}
+use Rattle.judging.specs.Least.{few-clean}
+use Rattle.laying.specs.declared.Answer as laid-answer
+use Rattle.laying.specs.declared.Answer.the-variants as answers
+use Rattle.laying.specs.Laying.{answered}
 
 inside : (x : List ℕ) → length x ≤ 65535 → {r p : ℕ} → Breaks x r p → p ≤ 65535
 inside x h (too-long k) = omega arith

@@ -1,2 +1,2 @@
--- What judge and lay answer, in document 01's numbers.
+-- What the functions for C answer, in one word.
 pub mod Answers

@@ -15,10 +15,11 @@ use Rattle.io.specs.Counts.{Counts}
 use Rattle.io.specs.Digits.{glyph, digits, Fewest}
 use Rattle.utf8.specs.Ascii.{ascii}
 use Rattle.sheets.specs.Laid.{answer, laid, refused}
-use Rattle.kebrawish.specs.declared.Answer.{Answer}
-use Rattle.kebrawish.specs.declared.Answer.the-variants.{Laid, Refused}
-use Rattle.kebrawish.specs.declared.Refusal.{Refusal}
-use Rattle.kebrawish.specs.Answers.{answered, numberOf}
+use Rattle.refusals.specs.Refusals.{numberOf}
+use Rattle.refusals.specs.declared.Refusal.{Refusal}
+use Rattle.laying.specs.declared.Answer.{Answer}
+use Rattle.laying.specs.declared.Answer.the-variants.{Laid, Refused}
+use Rattle.laying.specs.Laying.{answered}
 use Rattle.writer.specs.Writes.{Writes, Skips}
 use Rattle.writer.specs.Laws.{then}
 use Rattle.listing.specs.Line.{spelled, decimal, lineOf, Spells, Lists}

@@ -5,10 +5,10 @@ ghost use mathlib.Core.List.{_++_};
 ghost use lib.ListN.{length, drop};
 ghost use Rattle.io.specs.Counts.{Counts};
 ghost use Rattle.sheets.specs.Laid.{answer, laid, refused};
-ghost use Rattle.kebrawish.specs.Answers.{answered};
+ghost use Rattle.laying.specs.Laying.{answered};
 ghost use Rattle.writer.specs.Writes.{Writes};
 ghost use Rattle.listing.specs.Line.{lineOf, Spells, Lists};
-use kebrawish::Answer;
+use laying::Answer;
 
 // Writes bytes from a cursor on, as the functions of `writer` do.
 fn put(bytes: &[u8], out: &mut [u8], at: usize) -> usize
@@ -67,7 +67,7 @@ fn line(answer: Answer, out: &mut [u8; 64]) -> usize
         Answer::Laid(size, objects) => laid_line(size, objects, out),
         Answer::Refused(refusal) => {
             let rule = refusal.rule;
-            refused_line(kebrawish::number_of(rule), refusal.place, out)
+            refused_line(refusals::number_of(rule), refusal.place, out)
         }
     }
 }
@@ -79,6 +79,6 @@ pub fn list(text: &[u8], out: &mut [u8; 64]) -> usize
     ensures { λ r. ⌜ Counts r (now (out .exit)) ⌝ }
 {
     let mut sheet = [0u8; 65536];
-    let answer = kebrawish::lay(text, &mut sheet);
+    let answer = laying::lay(text, &mut sheet);
     line(answer, out)
 }

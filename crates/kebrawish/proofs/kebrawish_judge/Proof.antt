@@ -9,9 +9,6 @@ use Rattle.kebrawish.proofs.kebrawish_judge.Statement.{statement}
 use Rattle.kebrawish.proofs.kebrawish_judge.Tie as tie
 use Rattle.kebrawish.proofs.kebrawish_judge.Reads as reads
 use Rattle.kebrawish.proofs.kebrawish_judge.Lts as lts
-use Rattle.kebrawish.proofs.judge.Reads as judge-reads
-use Rattle.kebrawish.proofs.number_of.Reads as number-of-reads
-use Rattle.kebrawish.proofs.packed.Reads as packed-reads
 
 -- src/lib.rt:175:9
 judge-requires : tie.Need-judge-requires

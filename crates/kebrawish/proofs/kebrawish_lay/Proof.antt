@@ -2,9 +2,9 @@
 use mathlib.Core.Path.{sym, ap, _∙_}
 use native.Mathlib.Omega.{arith}
 use Prim.Native.Nat.{ℕ, _*_, _+_, _^_}
-use Rattle.kebrawish.specs.Answers.{word, laidWord, numberOf}
+use Rattle.kebrawish.specs.Answers.{word, laidWord}
 use Rattle.kebrawish.proofs.Bounds.{number-small, of-laid-answer, of-refused-answer, laid-small, refused-small}
-use Rattle.kebrawish.proofs.Rules.{judges}
+use borrow.Author.Needs.{needs}
 use Rattle.kebrawish.proofs.kebrawish_lay.Statement.{statement}
 use Rattle.kebrawish.proofs.kebrawish_lay.Tie as tie
 
@@ -26,4 +26,4 @@ unfolding laidWord word
 returns-2 c = ((c .packed .ensures) ∙ ap (λ (n : ℕ). n * 2 ^ 56 + (c .before .before .before .answer2 .given .0 .0 .place)) (c .before .number-of .ensures) ∙ sym (ap laidWord (of-refused-answer _ _ (c .before .before .before .before .before .before .before .lay .ensures .0) (c .before .before .before .answer2 .given .1))), (c .before .before .before .before .before .before .before .lay .ensures .1))
 
 pub kebrawish-lay-spec : {M : Type 1} → statement M
-kebrawish-lay-spec = tie.close (tie.spec (λ c κs. search judges) (λ c. search judges) mul-result add-result (λ c. search judges) (λ c κs. search judges) packed-requires (λ c. search judges) returns (λ c. search judges) returns-2)
+kebrawish-lay-spec = tie.close (tie.spec (λ c κs. search needs) (λ c. search needs) mul-result add-result (λ c. search needs) (λ c κs. search needs) packed-requires (λ c. search needs) returns (λ c. search needs) returns-2)

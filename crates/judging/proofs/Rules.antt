@@ -1,0 +1,105 @@
+-- What the proofs of the functions that judge use. Assumes nothing.
+use Prim.Native.Nat.{ℕ, _≤_, _<_}
+use native.Mathlib.Omega.{arith}
+use mathlib.Core.Path.{_≡_, sym, ap, _∙_, subst}
+use mathlib.Core.List.{List, map}
+use lib.ListN.{length}
+use borrow.Author.Needs.{needs}
+use Rattle.utf8.specs.Utf8.{wholeLength}
+use Rattle.json.specs.Machine.{read, reads}
+use Rattle.json.specs.Table.{Sub}
+use Rattle.json.specs.Parse.{Tells}
+use Rattle.json.specs.declared.Parsed.{Parsed}
+use Rattle.json.specs.declared.Parsed.the-variants as parse
+use Rattle.nodes.specs.Everywhere.{rule5, rule6}
+use Rattle.nodes.specs.Faults.{fault, least, none}
+use Rattle.nodes.specs.Says.{Gives}
+use Rattle.fields.specs.Fields.{objectsOf}
+use Rattle.schema.specs.Schema.{cityJson}
+use Rattle.schema.specs.Says.{IndexedAt}
+use Rattle.schema.specs.declared.Walked.{Walked}
+use Rattle.links.specs.Says.{Ready, LinksGive}
+use Rattle.verdict.specs.Verdict.{refused, faults, parsed}
+use Rattle.verdict.specs.Exact.{verdict-long, verdict-odd, verdict-read, in-text}
+use Rattle.verdict.specs.Places.{Placed, early}
+use Rattle.refusals.specs.Refusals.{numberOf}
+use Rattle.refusals.specs.declared.Broken.the-variants as broken
+use Rattle.judging.specs.declared.Screened.the-variants as screened
+use Rattle.judging.specs.declared.Opened.{Opened}
+use Rattle.judging.specs.declared.Opened.the-variants as opened
+use Rattle.judging.specs.Judging.{Room, Screens, Stands, Opens, Examined}
+use Rattle.judging.specs.Laws.{passed-short, passed-judged, screened-refused, opened-tree, opened-refused, table-refused, table-accepted}
+use Rattle.judging.specs.Least.{early-passes, all-passes, before-links, no-repeat, no-schema, from-five, few-objects}
+use Rattle.judging.proofs.Alone.{alone}
+
+-- ---- rules 1 and 2
+
+module _ (x : List ℕ) where
+  pub screen-long : 65535 < length x → Screens x (screened.Refused (record { rule = broken.TooLong; place = 65535 }))
+  unfolding Screens numberOf
+  screen-long h = verdict-long x h
+
+  module _ {n : ℕ} (short : length x ≤ 65535) (whole : n ≡ wholeLength x) where
+    pub screen-odd : n < length x → Screens x (screened.Refused (record { rule = broken.NotUtf8; place = n }))
+    unfolding Screens numberOf
+    screen-odd h = verdict-odd x short (omega arith) ∙ ap (refused 2) (sym whole)
+
+    pub screen-passed : length x ≤ n → Screens x screened.Passed
+    unfolding Screens
+    screen-passed h = (short, verdict-read x short (omega arith))
+
+-- ---- rules 3 and 4
+
+module _ (x t₀ t : List ℕ) {r : Parsed} (h : Tells x t₀ t r) where
+  pub open-tree : {n : ℕ} → r ≡ parse.Nodes n → Opens x t (opened.Tree n)
+  unfolding Tells Opens
+  open-tree e = let s = subst (Tells x t₀ t) e h in record { value = s .value; short = s .short; reads = s .reads; stands = s .stands; ends = s .ends }
+
+  pub open-bad : {p : ℕ} → r ≡ parse.Bad p → Opens x t (opened.Refused (record { rule = broken.NotJson; place = p }))
+  unfolding Tells Opens numberOf parsed
+  open-bad e = ap parsed (subst (Tells x t₀ t) e h .1)
+
+  pub open-deep : {p : ℕ} → r ≡ parse.Deep p → Opens x t (opened.Refused (record { rule = broken.TooDeep; place = p }))
+  unfolding Tells Opens numberOf parsed
+  open-deep e = ap parsed (subst (Tells x t₀ t) e h .1)
+
+  -- neither happens
+  pub open-long : (o : Opened) → Room x t₀ → r ≡ parse.Long → Opens x t o
+  unfolding Tells
+  open-long o k e = absurd (omega (arith, subst (Tells x t₀ t) e h, k .short))
+
+  pub open-short : (o : Opened) → Room x t₀ → r ≡ parse.Short → Opens x t o
+  unfolding Tells
+  open-short o k e = absurd (omega (arith, subst (Tells x t₀ t) e h .1, k .long))
+
+-- ---- rules 5 to 17
+
+-- the least fault and the index of the tree are those of the text
+examined : {x t : List ℕ} {n : ℕ} {w : Walked} (s : Stands x t n) → IndexedAt x t (w .index) → w .least ≡ least none (faults (s .value)) → Examined x t w
+examined {x} {t} s i e = record {
+  least = λ v q. e ∙ ap (λ u. least none (faults u)) (cc);
+  from = from-five (s .value) (in-text x (s .value) (s .short) (s .reads)) e;
+  indexed = λ v q. i .is v (subst (Sub x t 0) (cc) (s .stands));
+}
+
+module _ {x t : List ℕ} {n a b : ℕ} {w : Walked} (s : Stands x t n) (five : Gives (λ v. least none (map (fault 5) (rule5 v))) x t 0 a) (six : Gives (λ v. least a (map (fault 6) (rule6 v))) x t 0 b)
+    (schema : Gives (λ v. least b (cityJson v)) x t 0 (w .least)) (index : IndexedAt x t (w .index)) where
+  placed : Placed (s .value)
+  placed = in-text x (s .value) (s .short) (s .reads)
+
+  walked : w .least ≡ least none (early (s .value))
+  walked = early-passes (s .value) (five .is (s .value) (s .stands)) (six .is (s .value) (s .stands)) (schema .is (s .value) (s .stands))
+
+  pub examine-early : w .least < none → Examined x t w
+  examine-early h = examined s index (before-links (s .value) placed walked h)
+
+  few : none ≤ w .least → length (objectsOf (s .value)) ≤ 1024
+  few h = few-objects (s .value) (no-schema (s .value) placed walked h)
+
+  pub examine-ready : none ≤ w .least → Ready x t (w .index)
+  examine-ready h = record { value = s .value; stands = s .stands; short = s .short; few = few h; indexed = index .is; alone = alone (s .value) (no-repeat (s .value) placed walked h) }
+
+  pub examine-late : {d : ℕ} → none ≤ w .least → LinksGive x t (w .least) d → Examined x t (record { index = w .index; least = d })
+  examine-late h g = examined s index (all-passes (s .value) walked (g .is (s .value) (s .stands) (few h)))
+
+pub ruleset judges = (needs, screen-long, screen-odd, screen-passed, passed-short, passed-judged, screened-refused, open-tree, open-bad, open-deep, open-long, open-short, opened-tree, opened-refused, examine-early, examine-ready, examine-late, table-refused, table-accepted)

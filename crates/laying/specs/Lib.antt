@@ -1,0 +1,2 @@
+-- What lay answers, and the sheet that it leaves.
+pub mod Laying

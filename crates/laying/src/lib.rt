@@ -1,0 +1,97 @@
+// Lays out a CityJSON text as a sheet of records.
+ghost use Prim.Native.Nat.{_≤_};
+ghost use mathlib.Core.Path.{_≡_};
+ghost use lib.ListN.{length};
+ghost use Rattle.verdict.specs.Verdict.{parsed};
+ghost use Rattle.json.specs.Machine.{read};
+ghost use Rattle.sheets.specs.Laid.{answer, roomAfter};
+ghost use Rattle.judging.specs.Judging.{Stands, Room};
+ghost use Rattle.laying.specs.Laying.{answered, Zeroes, Lays};
+use judging::Opened;
+use judging::Screened;
+use refusals::Broken;
+use refusals::Refusal;
+
+// What lay answers: the sheet's length and the number of city objects, or a refusal.
+pub enum Answer {
+    Laid(usize, usize),
+    Refused(Refusal),
+}
+
+// Lays out a text whose tree's words are the first n of the table, in a sheet of zeroes.
+fn lay_table(text: &[u8], table: &[u32], n: usize, sheet: &mut [u8]) -> Answer
+    requires { ⌜ (Stands (now text) (now table) n) × (Zeroes (now sheet)) ⌝ }
+    ensures { λ r. ⌜ Lays (now (text .entry)) (parsed (read (now (text .entry)))) (now (sheet .entry)) (now (sheet .exit)) (answered r) ⌝ }
+{
+    let walked = judging::examine(text, table, n);
+    let fault = walked.least;
+    if fault < 1179648 {
+        return Answer::Refused(refusals::refuse_fault(fault));
+    }
+    let index = walked.index;
+    let size = records::sheet(text, table, index, sheet);
+    if size > sheet.len() {
+        writer::clear(sheet);
+        return Answer::Refused(Refusal {
+            rule: Broken::NoRoom,
+            place: 0,
+        });
+    }
+    Answer::Laid(size, index.count)
+}
+
+// Lays out a text in a sheet of zeroes, with a work table that has room for its tree.
+fn lay_in(text: &[u8], table: &mut [u32], sheet: &mut [u8]) -> Answer
+    requires { ⌜ (Room (now text) (now table)) × (Zeroes (now sheet)) ⌝ }
+    ensures { λ r. ⌜ Lays (now (text .entry)) (parsed (read (now (text .entry)))) (now (sheet .entry)) (now (sheet .exit)) (answered r) ⌝ }
+{
+    let opened = judging::open(text, table);
+    match opened {
+        Opened::Tree(n) => lay_table(text, table, n, sheet),
+        Opened::Refused(refusal) => Answer::Refused(refusal),
+    }
+}
+
+// Lays out a text of at most 4,096 bytes in a sheet of zeroes.
+fn lay_short(text: &[u8], sheet: &mut [u8]) -> Answer
+    requires { ⌜ (length (now text) ≤ 4096) × (Zeroes (now sheet)) ⌝ }
+    ensures { λ r. ⌜ Lays (now (text .entry)) (parsed (read (now (text .entry)))) (now (sheet .entry)) (now (sheet .exit)) (answered r) ⌝ }
+{
+    let mut space: [u32; 6194] = [0; 6194];
+    let table: &mut [u32] = &mut space;
+    lay_in(text, table, sheet)
+}
+
+// Lays out a text that is not too long, in a sheet of zeroes.
+fn lay_long(text: &[u8], sheet: &mut [u8]) -> Answer
+    requires { ⌜ (length (now text) ≤ 65535) × (Zeroes (now sheet)) ⌝ }
+    ensures { λ r. ⌜ Lays (now (text .entry)) (parsed (read (now (text .entry)))) (now (sheet .entry)) (now (sheet .exit)) (answered r) ⌝ }
+{
+    let mut space: [u32; 98352] = [0; 98352];
+    let table: &mut [u32] = &mut space;
+    lay_in(text, table, sheet)
+}
+
+// Lays out a text that is not too long, in a sheet of zeroes, with a work table of a size that suits it.
+fn lay_json(text: &[u8], sheet: &mut [u8]) -> Answer
+    requires { ⌜ (length (now text) ≤ 65535) × (Zeroes (now sheet)) ⌝ }
+    ensures { λ r. ⌜ Lays (now (text .entry)) (parsed (read (now (text .entry)))) (now (sheet .entry)) (now (sheet .exit)) (answered r) ⌝ }
+{
+    if text.len() <= 4096 {
+        return lay_short(text, sheet);
+    }
+    lay_long(text, sheet)
+}
+
+// Lays out a text in the lent sheet: the sheet's length and the number of city objects, and the sheet with zeroes after it; or a refusal as judge gives it, 18 if the sheet is longer than the room, and zeroes throughout.
+pub fn lay(text: &[u8], sheet: &mut [u8]) -> Answer
+    ensures { λ r. ⌜ answered r ≡ answer (now (text .entry)) (length (now (sheet .entry))) ⌝ }
+    ensures { λ r. ⌜ now (sheet .exit) ≡ roomAfter (now (text .entry)) (length (now (sheet .entry))) ⌝ }
+{
+    writer::clear(sheet);
+    let screened = judging::screen(text);
+    match screened {
+        Screened::Passed => lay_json(text, sheet),
+        Screened::Refused(refusal) => Answer::Refused(refusal),
+    }
+}

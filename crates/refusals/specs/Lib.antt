@@ -1,0 +1,2 @@
+-- The rules of document 01 and their numbers.
+pub mod Refusals
