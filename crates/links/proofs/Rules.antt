@@ -17,6 +17,7 @@ use Rattle.fields.specs.Laws.{at-node}
 use Rattle.ids.specs.Says.{Objects, Chains}
 use Rattle.ids.proofs.Rules.{ids, object-node, object-value, fresh-zero, fresh-length}
 use Rattle.links.specs.Says.{Numbered, Empty}
+use Rattle.links.proofs.Memo.{number-fits, number-short, kept-room, kept-put, kept-told}
 use Rattle.links.proofs.Walk.{walk-node, walk-less}
 use Rattle.links.proofs.Marking.{mark-other, mark-absent, mark-again, mark-new, marking-begin, marking-room, marking-turn, marked, marked-other, marked-nothing}
 use Rattle.links.proofs.Answering.{open-other, open-absent, open-told, answering-begin, answering-turn, answered, answered-other, answered-nothing, answered-excused}
@@ -47,6 +48,8 @@ emptied n q h = record { room = omega (arith, fresh-length n q); clear = fresh-z
 
 pub row-within : {k count n : ℕ} → k < count → count * 128 ≤ n → k * 128 + 128 ≤ n
 row-within l h = omega arith
+
+pub ruleset noting = (needs, number-fits, number-short, kept-room, kept-put, kept-told)
 
 pub ruleset marking = (checking, needs, ids, at-node, at-room, at-onward, walk-node, walk-less, mark-other, mark-absent, mark-again, mark-new, marking-begin, marking-room, marking-turn, marked, marked-other, marked-nothing)
 

@@ -3,6 +3,7 @@ use mathlib.Core.Path.{_≡_}
 use mathlib.Core.Bool.{Bool, false}
 use mathlib.Core.List.{List, [], _∷_, _++_}
 use mathlib.Core.Option.{Option}
+use mathlib.Core.Logic.{_⊎_}
 use Prim.Native.Nat.{ℕ, _+_, _*_, _<_, _≤_}
 use Prim.Native.String.{String}
 use lib.ListN.{length, getD}
@@ -12,6 +13,7 @@ use Rattle.json.specs.Table.{Sub}
 use Rattle.model.specs.Model.{numberOf}
 use Rattle.nodes.specs.Access.{Member}
 use Rattle.nodes.specs.Faults.{least}
+use Rattle.nodes.specs.Parts.{textAt}
 use Rattle.nodes.specs.Says.{Finds, Gives, GivesFound}
 use Rattle.nodes.specs.declared.Found.{Found}
 use Rattle.fields.specs.Fields.{objectsOf}
@@ -25,6 +27,11 @@ use Rattle.links.specs.Passes.{absentAt, absent, openAt, openIn, absentO
 pub record Numbered (x t offsets : List ℕ) (count : ℕ) (heads nexts : List ℕ) : Type 0 where
   pub objects : Objects x t offsets count
   pub chains : Chains x t offsets count heads nexts
+
+-- what the memo has at q is 0, or one more than the number of the object whose ID is the text at the node 3 q
+pub record Kept (x t offsets : List ℕ) (count : ℕ) (memo : List ℕ) : Type 0 where
+  pub room : length memo ≡ 32784
+  pub is : (ms : List Member) → Offsets x t ms offsets count → (q : ℕ) → (getD memo q 0 ≡ 0) ⊎ (getD memo q 0 ≡ numberOf (namesOf ms) (textAt x t (3 * q)) + 1)
 
 -- the IDs of a list of values and those that were listed before, the last first
 unfoldable pub seen : List (List ℕ) → List Json → List (List ℕ)

@@ -8,9 +8,66 @@ ghost use lib.ListN.{length, getD};
 ghost use Rattle.nodes.specs.Access as access;
 ghost use Rattle.nodes.specs.Faults.{least};
 ghost use Rattle.nodes.specs.Says.{Node, Sought, Seeks, Gives};
-ghost use Rattle.ids.specs.Says.{Objects};
+ghost use Rattle.ids.specs.Says.{TextNode, Objects, Numbers};
 ghost use Rattle.links.specs.Links.{hasParent};
-ghost use Rattle.links.specs.Says.{Numbered, MarkGives, MarksGive, ObjectMarks, AllMarks, Filled, OpenGives, OpensGive, ObjectOpens, AllOpens, Empty, AllGive, Ready, LinksGive};
+ghost use Rattle.links.specs.Says.{Numbered, Kept, MarkGives, MarksGive, ObjectMarks, AllMarks, Filled, OpenGives, OpensGive, ObjectOpens, AllOpens, Empty, AllGive, Ready, LinksGive};
+
+// A number of the memo, as a number of full width.
+fn wide(w: u16) -> usize
+    ensures { λ r. ⌜ r ≡ w ⌝ }
+{
+    w as usize
+}
+
+// The number of the object whose ID is the string at node k, which is also noted in the memo.
+fn number_noted(
+    text: &[u8],
+    table: &[u32],
+    offsets: &[usize; 1024],
+    count: usize,
+    heads: &[u16; 4096],
+    nexts: &[u16; 1024],
+    memo: &mut [u16; 32784],
+    k: usize,
+) -> usize
+    requires { ⌜ (Numbered (now text) (now table) (now offsets) count (now heads) (now nexts)) × (TextNode (now text) (now table) k) × (Kept (now text) (now table) (now offsets) count (now memo)) ⌝ }
+    ensures { λ r. ⌜ (Numbers (now (text .entry)) (now (table .entry)) (now (offsets .entry)) count k r) × (Kept (now (text .entry)) (now (table .entry)) (now (offsets .entry)) count (now (memo .exit))) ⌝ }
+{
+    let r = ids::number(text, table, offsets, count, heads, nexts, k);
+    let q = k / 3;
+    if q < 32784 {
+        if 3 * q == k {
+            memo[q] = (r + 1) as u16;
+        }
+    }
+    r
+}
+
+// The same number, from the memo if it is there.
+fn number_again(
+    text: &[u8],
+    table: &[u32],
+    offsets: &[usize; 1024],
+    count: usize,
+    heads: &[u16; 4096],
+    nexts: &[u16; 1024],
+    memo: &[u16; 32784],
+    k: usize,
+) -> usize
+    requires { ⌜ (Numbered (now text) (now table) (now offsets) count (now heads) (now nexts)) × (TextNode (now text) (now table) k) × (Kept (now text) (now table) (now offsets) count (now memo)) ⌝ }
+    ensures { λ r. ⌜ Numbers (now (text .entry)) (now (table .entry)) (now (offsets .entry)) count k r ⌝ }
+{
+    let q = k / 3;
+    if q < 32784 {
+        if 3 * q == k {
+            let e = wide(memo[q]);
+            if e != 0 {
+                return e - 1;
+            }
+        }
+    }
+    ids::number(text, table, offsets, count, heads, nexts, k)
+}
 
 // Rule 15 of the value at node k, if it is a string, of a list of the object of number `row`: its object is there, and not yet in the row of the set. Then it is.
 fn mark(
@@ -20,18 +77,19 @@ fn mark(
     count: usize,
     heads: &[u16; 4096],
     nexts: &[u16; 1024],
+    memo: &mut [u16; 32784],
     set: &mut [u8],
     row: usize,
     k: usize,
     best: u32,
 ) -> u32
-    requires { ⌜ (Numbered (now text) (now table) (now offsets) count (now heads) (now nexts)) × (Node (now text) (now table) k) × (row * 128 + 128 ≤ length (now set)) ⌝ }
-    ensures { λ r. ⌜ MarkGives (now (text .entry)) (now (table .entry)) (now (offsets .entry)) count row k (now (set .entry)) (now (set .exit)) best r ⌝ }
+    requires { ⌜ (Numbered (now text) (now table) (now offsets) count (now heads) (now nexts)) × (Node (now text) (now table) k) × (row * 128 + 128 ≤ length (now set)) × (Kept (now text) (now table) (now offsets) count (now memo)) ⌝ }
+    ensures { λ r. ⌜ (MarkGives (now (text .entry)) (now (table .entry)) (now (offsets .entry)) count row k (now (set .entry)) (now (set .exit)) best r) × (Kept (now (text .entry)) (now (table .entry)) (now (offsets .entry)) count (now (memo .exit))) ⌝ }
 {
     if !nodes::is_string(text, table, k) {
         return best;
     }
-    let other = ids::number(text, table, offsets, count, heads, nexts, k);
+    let other = number_noted(text, table, offsets, count, heads, nexts, memo, k);
     if other >= count {
         return shapes::unless(false, 15, text, table, k, best);
     }
@@ -50,13 +108,14 @@ fn mark_list(
     count: usize,
     heads: &[u16; 4096],
     nexts: &[u16; 1024],
+    memo: &mut [u16; 32784],
     set: &mut [u8],
     row: usize,
     found: Found,
     best: u32,
 ) -> u32
-    requires { ⌜ (Numbered (now text) (now table) (now offsets) count (now heads) (now nexts)) × (Sought (now text) (now table) found) × (row * 128 + 128 ≤ length (now set)) ⌝ }
-    ensures { λ r. ⌜ MarksGive (now (text .entry)) (now (table .entry)) (now (offsets .entry)) count row found (now (set .entry)) (now (set .exit)) best r ⌝ }
+    requires { ⌜ (Numbered (now text) (now table) (now offsets) count (now heads) (now nexts)) × (Sought (now text) (now table) found) × (row * 128 + 128 ≤ length (now set)) × (Kept (now text) (now table) (now offsets) count (now memo)) ⌝ }
+    ensures { λ r. ⌜ (MarksGive (now (text .entry)) (now (table .entry)) (now (offsets .entry)) count row found (now (set .entry)) (now (set .exit)) best r) × (Kept (now (text .entry)) (now (table .entry)) (now (offsets .entry)) count (now (memo .exit))) ⌝ }
 {
     let Found::At(i) = found else {
         return best;
@@ -75,6 +134,7 @@ fn mark_list(
             count,
             heads,
             nexts,
+            memo,
             set,
             row,
             k,
@@ -93,13 +153,14 @@ fn mark_object(
     count: usize,
     heads: &[u16; 4096],
     nexts: &[u16; 1024],
+    memo: &mut [u16; 32784],
     children: &mut [u8],
     parents: &mut [u8],
     k: usize,
     best: u32,
 ) -> u32
-    requires { ⌜ (Numbered (now text) (now table) (now offsets) count (now heads) (now nexts)) × (k < count) × (count * 128 ≤ length (now children)) × (count * 128 ≤ length (now parents)) ⌝ }
-    ensures { λ r. ⌜ ObjectMarks (now (text .entry)) (now (table .entry)) (now (offsets .entry)) count k (now (children .entry)) (now (children .exit)) (now (parents .entry)) (now (parents .exit)) best r ⌝ }
+    requires { ⌜ (Numbered (now text) (now table) (now offsets) count (now heads) (now nexts)) × (k < count) × (count * 128 ≤ length (now children)) × (count * 128 ≤ length (now parents)) × (Kept (now text) (now table) (now offsets) count (now memo)) ⌝ }
+    ensures { λ r. ⌜ (ObjectMarks (now (text .entry)) (now (table .entry)) (now (offsets .entry)) count k (now (children .entry)) (now (children .exit)) (now (parents .entry)) (now (parents .exit)) best r) × (Kept (now (text .entry)) (now (table .entry)) (now (offsets .entry)) count (now (memo .exit))) ⌝ }
 {
     let own = offsets[k];
     let i = own + 3;
@@ -112,6 +173,7 @@ fn mark_object(
         count,
         heads,
         nexts,
+        memo,
         children,
         k,
         below,
@@ -124,6 +186,7 @@ fn mark_object(
         count,
         heads,
         nexts,
+        memo,
         parents,
         k,
         above,
@@ -139,12 +202,13 @@ fn mark_all(
     count: usize,
     heads: &[u16; 4096],
     nexts: &[u16; 1024],
+    memo: &mut [u16; 32784],
     children: &mut [u8],
     parents: &mut [u8],
     best: u32,
 ) -> u32
-    requires { ⌜ (Numbered (now text) (now table) (now offsets) count (now heads) (now nexts)) × (count * 128 ≤ length (now children)) × (count * 128 ≤ length (now parents)) ⌝ }
-    ensures { λ r. ⌜ AllMarks (now (text .entry)) (now (table .entry)) (now (offsets .entry)) count (now (children .entry)) (now (children .exit)) (now (parents .entry)) (now (parents .exit)) best r ⌝ }
+    requires { ⌜ (Numbered (now text) (now table) (now offsets) count (now heads) (now nexts)) × (count * 128 ≤ length (now children)) × (count * 128 ≤ length (now parents)) × (Kept (now text) (now table) (now offsets) count (now memo)) ⌝ }
+    ensures { λ r. ⌜ (AllMarks (now (text .entry)) (now (table .entry)) (now (offsets .entry)) count (now (children .entry)) (now (children .exit)) (now (parents .entry)) (now (parents .exit)) best r) × (Kept (now (text .entry)) (now (table .entry)) (now (offsets .entry)) count (now (memo .exit))) ⌝ }
 {
     let mut least = best;
     let mut k = 0;
@@ -156,6 +220,7 @@ fn mark_all(
             count,
             heads,
             nexts,
+            memo,
             children,
             parents,
             k,
@@ -174,18 +239,19 @@ fn answer(
     count: usize,
     heads: &[u16; 4096],
     nexts: &[u16; 1024],
+    memo: &[u16; 32784],
     set: &[u8],
     own: usize,
     k: usize,
     best: u32,
 ) -> u32
-    requires { ⌜ (Numbered (now text) (now table) (now offsets) count (now heads) (now nexts)) × (Node (now text) (now table) k) × (own < count) × (count * 128 ≤ length (now set)) ⌝ }
+    requires { ⌜ (Numbered (now text) (now table) (now offsets) count (now heads) (now nexts)) × (Node (now text) (now table) k) × (own < count) × (count * 128 ≤ length (now set)) × (Kept (now text) (now table) (now offsets) count (now memo)) ⌝ }
     ensures { λ r. ⌜ OpenGives (now (text .entry)) (now (table .entry)) (now (offsets .entry)) count own k (now (set .entry)) best r ⌝ }
 {
     if !nodes::is_string(text, table, k) {
         return best;
     }
-    let other = ids::number(text, table, offsets, count, heads, nexts, k);
+    let other = number_again(text, table, offsets, count, heads, nexts, memo, k);
     if other >= count {
         return shapes::unless(false, 17, text, table, k, best);
     }
@@ -200,13 +266,14 @@ fn answer_list(
     count: usize,
     heads: &[u16; 4096],
     nexts: &[u16; 1024],
+    memo: &[u16; 32784],
     set: &[u8],
     own: usize,
     excused: bool,
     found: Found,
     best: u32,
 ) -> u32
-    requires { ⌜ (Numbered (now text) (now table) (now offsets) count (now heads) (now nexts)) × (Sought (now text) (now table) found) × (own < count) × (count * 128 ≤ length (now set)) ⌝ }
+    requires { ⌜ (Numbered (now text) (now table) (now offsets) count (now heads) (now nexts)) × (Sought (now text) (now table) found) × (own < count) × (count * 128 ≤ length (now set)) × (Kept (now text) (now table) (now offsets) count (now memo)) ⌝ }
     ensures { λ r. ⌜ OpensGive (now (text .entry)) (now (table .entry)) (now (offsets .entry)) count own excused found (now (set .entry)) best r ⌝ }
 {
     if excused {
@@ -229,6 +296,7 @@ fn answer_list(
             count,
             heads,
             nexts,
+            memo,
             set,
             own,
             k,
@@ -260,12 +328,13 @@ fn answer_object(
     count: usize,
     heads: &[u16; 4096],
     nexts: &[u16; 1024],
+    memo: &[u16; 32784],
     children: &[u8],
     parents: &[u8],
     k: usize,
     best: u32,
 ) -> u32
-    requires { ⌜ (Numbered (now text) (now table) (now offsets) count (now heads) (now nexts)) × (Filled (now text) (now table) (now offsets) count (now children) (now parents)) × (k < count) ⌝ }
+    requires { ⌜ (Numbered (now text) (now table) (now offsets) count (now heads) (now nexts)) × (Filled (now text) (now table) (now offsets) count (now children) (now parents)) × (k < count) × (Kept (now text) (now table) (now offsets) count (now memo)) ⌝ }
     ensures { λ r. ⌜ ObjectOpens (now (text .entry)) (now (table .entry)) (now (offsets .entry)) count k best r ⌝ }
 {
     let name = offsets[k];
@@ -282,6 +351,7 @@ fn answer_object(
         count,
         heads,
         nexts,
+        memo,
         parents,
         own,
         group,
@@ -295,6 +365,7 @@ fn answer_object(
         count,
         heads,
         nexts,
+        memo,
         children,
         own,
         false,
@@ -312,11 +383,12 @@ fn answer_all(
     count: usize,
     heads: &[u16; 4096],
     nexts: &[u16; 1024],
+    memo: &[u16; 32784],
     children: &[u8],
     parents: &[u8],
     best: u32,
 ) -> u32
-    requires { ⌜ (Numbered (now text) (now table) (now offsets) count (now heads) (now nexts)) × (Filled (now text) (now table) (now offsets) count (now children) (now parents)) ⌝ }
+    requires { ⌜ (Numbered (now text) (now table) (now offsets) count (now heads) (now nexts)) × (Filled (now text) (now table) (now offsets) count (now children) (now parents)) × (Kept (now text) (now table) (now offsets) count (now memo)) ⌝ }
     ensures { λ r. ⌜ AllOpens (now (text .entry)) (now (table .entry)) (now (offsets .entry)) count best r ⌝ }
 {
     let mut least = best;
@@ -329,6 +401,7 @@ fn answer_all(
             count,
             heads,
             nexts,
+            memo,
             children,
             parents,
             k,
@@ -354,6 +427,7 @@ fn links_with(
 {
     let mut heads: [u16; 4096] = [0; 4096];
     let mut nexts: [u16; 1024] = [0; 1024];
+    let mut memo: [u16; 32784] = [0; 32784];
     ids::fill(text, table, offsets, count, &mut heads, &mut nexts);
     let a = mark_all(
         text,
@@ -362,6 +436,7 @@ fn links_with(
         count,
         &heads,
         &nexts,
+        &mut memo,
         children,
         parents,
         best,
@@ -373,6 +448,7 @@ fn links_with(
         count,
         &heads,
         &nexts,
+        &memo,
         children,
         parents,
         a,

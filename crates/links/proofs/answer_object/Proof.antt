@@ -13,32 +13,32 @@ mul-name : tie.Need-mul-name
 mul-name c = omega (arith, c .before .before .before .before .pre .0 .objects .stand .few)
 
 add-i : tie.Need-add-i
-add-i c = omega (arith, object-onward (c .before .before .before .before .before .pre .0 .objects) (c .before .before .before .before .before .pre .2))
+add-i c = let p = c .before .before .before .before .before .pre in omega (arith, object-onward (p .0 .objects) (p .2))
 
 member-requires : tie.Need-member-requires
-member-requires c κs = object-at (c .before .before .before .before .before .before .pre .0) (c .before .before .before .before .before .before .pre .2)
+member-requires c κs = let p = c .before .before .before .before .before .before .pre in object-at (p .0) (p .2)
 
 member-requires-2 : tie.Need-member-requires-2
-member-requires-2 c κs = object-at (c .before .before .before .before .before .before .before .before .pre .0) (c .before .before .before .before .before .before .before .before .pre .2)
+member-requires-2 c κs = let p = c .before .before .before .before .before .before .before .before .pre in object-at (p .0) (p .2)
 
 member-requires-3 : tie.Need-member-requires-3
-member-requires-3 c κs = object-at (c .before .before .before .before .before .before .before .before .before .before .pre .0) (c .before .before .before .before .before .before .before .before .before .before .pre .2)
+member-requires-3 c κs = let p = c .before .before .before .before .before .before .before .before .before .before .pre in object-at (p .0) (p .2)
 
 found-word-requires : tie.Need-found-word-requires
-found-word-requires c κs = (sought-in (c .before .before .before .before .before .member .ensures) (object-at (c .before .before .before .before .before .before .before .before .before .before .before .before .pre .0) (c .before .before .before .before .before .before .before .before .before .before .before .before .pre .2)), search sweeping)
+found-word-requires c κs = let p = c .before .before .before .before .before .before .before .before .before .before .before .before .pre in (sought-in (c .before .before .before .before .before .member .ensures) (object-at (p .0) (p .2)), search sweeping)
 
 number-requires : tie.Need-number-requires
-number-requires c κs = (c .before .before .before .before .before .before .before .before .before .before .before .before .before .pre .0 .objects, object-text (c .before .before .before .before .before .before .before .before .before .before .before .before .before .pre .0 .objects) (c .before .before .before .before .before .before .before .before .before .before .before .before .before .pre .2), c .before .before .before .before .before .before .before .before .before .before .before .before .before .pre .0 .chains)
+number-requires c κs = let p = c .before .before .before .before .before .before .before .before .before .before .before .before .before .pre in (p .0 .objects, object-text (p .0 .objects) (p .2), p .0 .chains)
 
 answer-list-requires : tie.Need-answer-list-requires
-answer-list-requires c κs = (c .before .before .before .before .before .before .before .before .before .before .before .before .before .before .pre .0, sought-in (c .before .before .before .before .before .member2 .ensures) (object-at (c .before .before .before .before .before .before .before .before .before .before .before .before .before .before .pre .0) (c .before .before .before .before .before .before .before .before .before .before .before .before .before .before .pre .2)), own-below (c .before .before .before .before .before .before .before .before .before .before .before .before .before .before .pre .0 .objects) (c .number .ensures) (c .before .before .before .before .before .before .before .before .before .before .before .before .before .before .pre .2), c .before .before .before .before .before .before .before .before .before .before .before .before .before .before .pre .1 .above)
+answer-list-requires c κs = let p = c .before .before .before .before .before .before .before .before .before .before .before .before .before .before .pre in (p .0, sought-in (c .before .before .before .before .before .member2 .ensures) (object-at (p .0) (p .2)), own-below (p .0 .objects) (c .number .ensures) (p .2), p .1 .above, p .3)
 
 answer-list-requires-2 : tie.Need-answer-list-requires-2
-answer-list-requires-2 c κs = (c .before .before .before .before .before .before .before .before .before .before .before .before .before .before .before .pre .0, sought-in (c .before .before .before .before .member3 .ensures) (object-at (c .before .before .before .before .before .before .before .before .before .before .before .before .before .before .before .pre .0) (c .before .before .before .before .before .before .before .before .before .before .before .before .before .before .before .pre .2)), own-below (c .before .before .before .before .before .before .before .before .before .before .before .before .before .before .before .pre .0 .objects) (c .before .number .ensures) (c .before .before .before .before .before .before .before .before .before .before .before .before .before .before .before .pre .2), c .before .before .before .before .before .before .before .before .before .before .before .before .before .before .before .pre .1 .below)
+answer-list-requires-2 c κs = let p = c .before .before .before .before .before .before .before .before .before .before .before .before .before .before .before .pre in (p .0, sought-in (c .before .before .before .before .member3 .ensures) (object-at (p .0) (p .2)), own-below (p .0 .objects) (c .before .number .ensures) (p .2), p .1 .below, p .3)
 
 has-parent-requires : tie.Need-has-parent-requires
 unfolding ascii
-has-parent-requires c κs = (object-at (c .before .before .before .before .before .before .before .before .before .before .before .before .before .before .before .before .pre .0) (c .before .before .before .before .before .before .before .before .before .before .before .before .before .before .before .before .pre .2), seeks-find "type" refl (c .before .before .before .before .before .before .before .before .before .member .ensures), seeks-find "parents" refl (c .before .before .before .before .before .member3 .ensures))
+has-parent-requires c κs = let p = c .before .before .before .before .before .before .before .before .before .before .before .before .before .before .before .before .pre in (object-at (p .0) (p .2), seeks-find "type" refl (c .before .before .before .before .before .before .before .before .before .member .ensures), seeks-find "parents" refl (c .before .before .before .before .before .member3 .ensures))
 
 returns : tie.Need-returns
 unfolding ascii

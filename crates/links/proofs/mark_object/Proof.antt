@@ -13,23 +13,23 @@ mul-own : tie.Need-mul-own
 mul-own c = omega (arith, c .before .before .before .before .pre .0 .objects .stand .few)
 
 add-i : tie.Need-add-i
-add-i c = omega (arith, object-onward (c .before .before .before .before .before .pre .0 .objects) (c .before .before .before .before .before .pre .1))
+add-i c = let p = c .before .before .before .before .before .pre in omega (arith, object-onward (p .0 .objects) (p .1))
 
 member-requires : tie.Need-member-requires
-member-requires c κs = object-at (c .before .before .before .before .before .before .pre .0) (c .before .before .before .before .before .before .pre .1)
+member-requires c κs = let p = c .before .before .before .before .before .before .pre in object-at (p .0) (p .1)
 
 member-requires-2 : tie.Need-member-requires-2
-member-requires-2 c κs = object-at (c .before .before .before .before .before .before .before .before .pre .0) (c .before .before .before .before .before .before .before .before .pre .1)
+member-requires-2 c κs = let p = c .before .before .before .before .before .before .before .before .pre in object-at (p .0) (p .1)
 
 mark-list-requires : tie.Need-mark-list-requires
-mark-list-requires c κs = (c .before .before .before .before .before .before .before .before .before .before .pre .0, sought-in (c .before .before .before .member .ensures) (object-at (c .before .before .before .before .before .before .before .before .before .before .pre .0) (c .before .before .before .before .before .before .before .before .before .before .pre .1)), row-within (c .before .before .before .before .before .before .before .before .before .before .pre .1) (c .before .before .before .before .before .before .before .before .before .before .pre .2))
+mark-list-requires c κs = let p = c .before .before .before .before .before .before .before .before .before .before .before .pre in (p .0, sought-in (c .before .before .before .before .member .ensures) (object-at (p .0) (p .1)), row-within (p .1) (p .2), p .4)
 
 mark-list-requires-2 : tie.Need-mark-list-requires-2
-mark-list-requires-2 c κs = (c .before .before .before .before .before .before .before .before .before .before .before .before .before .before .pre .0, sought-in (c .before .before .before .before .before .member2 .ensures) (object-at (c .before .before .before .before .before .before .before .before .before .before .before .before .before .before .pre .0) (c .before .before .before .before .before .before .before .before .before .before .before .before .before .before .pre .1)), row-within (c .before .before .before .before .before .before .before .before .before .before .before .before .before .before .pre .1) (c .before .before .before .before .before .before .before .before .before .before .before .before .before .before .pre .3))
+mark-list-requires-2 c κs = let p = c .before .before .before .before .before .before .before .before .before .before .before .before .before .before .before .before .pre in (p .0, sought-in (c .before .before .before .before .before .before .before .member2 .ensures) (object-at (p .0) (p .1)), row-within (p .1) (p .3), c .before .before .before .before .mark-list .ensures .1)
 
 returns : tie.Need-returns
 unfolding ascii
-returns c = object-marks (seeks-find "children" refl (c .before .before .before .before .before .before .before .before .before .before .member .ensures)) (seeks-find "parents" refl (c .before .before .before .before .before .before .before .before .member2 .ensures)) (c .before .before .before .before .before .before .mark-list .ensures) (c .before .before .mark-list2 .ensures) (c .before .before .before .before .before .before .before .before .before .before .before .before .before .before .before .before .before .pre .1) (c .before .before .before .before .before .before .before .before .before .before .before .before .before .before .before .before .before .pre .2) (c .before .before .before .before .before .before .before .before .before .before .before .before .before .before .before .before .before .pre .3)
+returns c = let p = c .before .before .before .before .before .before .before .before .before .before .before .before .before .before .before .before .before .before .before .pre in (object-marks (seeks-find "children" refl (c .before .before .before .before .before .before .before .before .before .before .before .before .member .ensures)) (seeks-find "parents" refl (c .before .before .before .before .before .before .before .before .before .before .member2 .ensures)) (c .before .before .before .before .before .before .before .mark-list .ensures .0) (c .before .before .mark-list2 .ensures .0) (p .1) (p .2) (p .3), c .before .before .mark-list2 .ensures .1)
 
 pub mark-object-spec : {M : Type 1} → statement M
 mark-object-spec =
