@@ -36,17 +36,6 @@ number-hit (i ∷ names) u h = of (same i u) refl (number-hit names u) h
     of true e r l = same-equal i u e
     of false e r l = r (omega arith)
 
--- an ID of the list has the number of its first place at most
-pub number-own : (names : List (List ℕ)) (k : ℕ) → k < length names → numberOf names (getD names k []) ≤ k
-unfolding numberOf
-number-own [] k h = absurd (omega arith)
-number-own (i ∷ names) zero h = rw (same-refl i) (omega arith)
-number-own (i ∷ names) (suc k) h = of (same i (getD names k [])) (number-own names k (omega arith))
-  where
-    of : (b : Bool) → numberOf names (getD names k []) ≤ k → cond b 0 (suc (numberOf names (getD names k []))) ≤ suc k
-    of true r = omega arith
-    of false r = omega arith
-
 -- two IDs are the same if they name the same object
 same-number : (names : List (List ℕ)) (u w : List ℕ) → numberOf names w < length names → same u w ≡ eqb (numberOf names u) (numberOf names w)
 same-number names u w h = of (same u w) refl

@@ -21,7 +21,7 @@ use Rattle.links.proofs.Memo.{number-fits, number-short, kept-room, kep
 use Rattle.links.proofs.Walk.{walk-node, walk-less}
 use Rattle.links.proofs.Marking.{mark-other, mark-absent, mark-again, mark-new, marking-begin, marking-room, marking-turn, marked, marked-other, marked-nothing}
 use Rattle.links.proofs.Answering.{open-other, open-absent, open-told, answering-begin, answering-turn, answered, answered-other, answered-nothing, answered-excused}
-use Rattle.links.proofs.Sweeps.{object-marks, filling-begin, filling-below, filling-above, filling-turn, filled, parent-some, parent-told, own-below, object-opens, opening-begin, opening-turn, opened, filled-all, all-given, objects-are, links-given}
+use Rattle.links.proofs.Sweeps.{object-marks, filling-begin, filling-below, filling-above, filling-turn, filled, parent-some, parent-told, object-opens, opening-begin, opening-turn, opened, filled-all, all-given, objects-are, alone-are, links-given}
 
 -- what a search in a value found is sought
 pub sought-in : {x t : List ℕ} {i : ℕ} {found : Found} {f : Json → Option Json} → Seeks f x t i found → Node x t i → Sought x t found
@@ -55,4 +55,4 @@ pub ruleset marking = (checking, needs, ids, at-node, at-room, at-onward, walk-n
 
 pub ruleset answering = (checking, needs, ids, at-node, at-room, at-onward, walk-node, walk-less, open-other, open-absent, open-told, answering-begin, answering-turn, answered, answered-other, answered-nothing, answered-excused)
 
-pub ruleset sweeping = (checking, needs, ids, sought-in, filling-begin, filling-below, filling-above, filling-turn, filled, own-below, opening-begin, opening-turn, opened, filled-all, all-given, objects-are, links-given)
+pub ruleset sweeping = (checking, needs, ids, sought-in, filling-begin, filling-below, filling-above, filling-turn, filled, opening-begin, opening-turn, opened, filled-all, all-given, objects-are, alone-are, links-given)

@@ -8,7 +8,7 @@ use mathlib.Core.Bool.{Bool, true, false, not, _&&_, and-false}
 use mathlib.Core.List.{List, [], _∷_, _++_}
 use mathlib.Core.Option.{Option, none, some}
 use lib.ListN.{length, getD, drop, drop-of-length-le}
-use lib.Seq.{drop-cons}
+use lib.Seq.{drop-cons, ext-getD}
 use lib.Dec.{eqb, ltb}
 use borrow.Author.Tests.{lt-ltb, le-ltb, ltb-true, ltb-false, ne-eqb, eqb-true, eqb-false}
 use Rattle.utf8.specs.Ascii.{ascii}
@@ -28,13 +28,12 @@ use Rattle.shapes.specs.Checks.{unless}
 use Rattle.shapes.specs.Laws.{unless-true}
 use Rattle.fields.specs.Fields.{textIn, countIn, typeText, objectsOf}
 use Rattle.fields.specs.declared.Index.{Index}
-use Rattle.ids.specs.Says.{Offsets, Objects, Numbers, namesOf}
+use Rattle.ids.specs.Says.{Offsets, Objects, namesOf}
 use Rattle.ids.proofs.Rules.{nobody, name-text}
 use Rattle.ids.proofs.Chains.{names-all, name-is}
 use Rattle.links.specs.Links.{elementsIn, listedIn, isEmpty, hasParent, linksOfEach, linkFaults}
 use Rattle.links.specs.Passes.{absent, openIn, absentOf, openOf, absentOfEach, openOfEach, marks}
-use Rattle.links.specs.Says.{Numbered, seen, Row, Beside, MarksGive, RowsTo, ObjectMarks, AllMarks, Filled, OpensGive, ObjectOpens, AllOpens, Empty, AllGive, Ready, LinksGive}
-use Rattle.links.proofs.Marks.{number-own}
+use Rattle.links.specs.Says.{Numbered, Alone, seen, Row, Beside, MarksGive, RowsTo, ObjectMarks, AllMarks, Filled, OpensGive, ObjectOpens, AllOpens, Empty, AllGive, Ready, LinksGive}
 use Rattle.links.proofs.Split.{split-objects}
 
 -- ---- rows
@@ -178,27 +177,20 @@ module _ {x t : List ℕ} {i : ℕ} {parents : Found} (best : ℕ) {count : ℕ}
 
 -- ---- rules 16 and 17
 
--- an object's own ID has a number below the count
-pub own-below : {x t offsets : List ℕ} {count k own : ℕ} → Objects x t offsets count → Numbers x t offsets count (getD offsets k 0) own → k < count → own < count
-own-below {count = count} {k} {own} s d l =
-    let names = namesOf (s .members) in
-    let n : own ≡ numberOf names (getD names k []) = d .is (s .members) (s .stand) ∙ ap (numberOf names) (sym (name-is (s .stand) l)) in
-    omega (arith, number-own names k (omega (arith, names-all (s .stand))))
-
 open-parts : (ms : List Member) (m : Member) → openOf ms m ≡ ((openIn ms "parents" (nameOf m) (same (ascii "CityObjectGroup") (textIn (find "type" (m .1)))) (elementsIn (find "children" (m .1))) ++ openIn ms "children" (nameOf m) false (elementsIn (find "parents" (m .1)))) ++ hasParent (m .1))
 unfolding openOf listedIn is typeText
 open-parts ms m = refl
 
-pub object-opens : {x t offsets : List ℕ} {count k own best a b r : ℕ} {c p : List ℕ} {kind below above : Found} {group : Bool}
+pub object-opens : {x t offsets : List ℕ} {count k best a b r : ℕ} {c p : List ℕ} {kind below above : Found} {group : Bool}
     → Seeks (λ v. find "type" v) x t (getD offsets k 0 + 3) kind → Seeks (λ v. find "children" v) x t (getD offsets k 0 + 3) below → Seeks (λ v. find "parents" v) x t (getD offsets k 0 + 3) above
-    → GivesFound (λ o. same (ascii "CityObjectGroup") (textIn o)) x t kind group → Numbers x t offsets count (getD offsets k 0) own → Filled x t offsets count c p → k < count
-    → OpensGive x t offsets count own group below p best a → OpensGive x t offsets count own false above c a b → Gives (λ v. least b (hasParent v)) x t (getD offsets k 0 + 3) r → ObjectOpens x t offsets count k best r
-object-opens {x} {t} {offsets} {k = k} {own} {best} {a} {b} {r} {group = group} s u w g n f l A B h = record {
+    → GivesFound (λ o. same (ascii "CityObjectGroup") (textIn o)) x t kind group → Alone x t offsets count → Filled x t offsets count c p → k < count
+    → OpensGive x t offsets count k group below p best a → OpensGive x t offsets count k false above c a b → Gives (λ v. least b (hasParent v)) x t (getD offsets k 0 + 3) r → ObjectOpens x t offsets count k best r
+object-opens {x} {t} {offsets} {k = k} {best} {a} {b} {r} {group = group} s u w g n f l A B h = record {
   is = λ ms o d.
       let m = getD ms k d in
       let z = o .each k d l .value in
       let i : nameOf m ≡ textAt x t (getD offsets k 0) = name-text (o .each k d l) in
-      let q : own ≡ numberOf (namesOf ms) (nameOf m) = rw i (n .is ms o) in
+      let q : k ≡ numberOf (namesOf ms) (nameOf m) = sym (n .is ms o k l) ∙ ap (numberOf (namesOf ms)) (name-is o l ∙ sym i) in
       let y : group ≡ same (ascii "CityObjectGroup") (textIn (find "type" (m .1))) = g .is _ (s .finds _ z) in
       let C = openIn ms "parents" (nameOf m) group (elementsIn (find "children" (m .1))) in
       let D = openIn ms "children" (nameOf m) false (elementsIn (find "parents" (m .1))) in
@@ -245,6 +237,13 @@ offsets-are {index = index} {v = v} d s f = let i = d .indexed v s in record { a
 
 pub objects-are : {x t : List ℕ} {index : Index} → Ready x t index → Objects x t (index .offsets) (index .count)
 objects-are d = record { members = objectsOf (d .value); stand = offsets-are d (d .stands) (d .few); short = d .short }
+
+-- members at the same offsets have the same IDs
+names-same : {x t offsets : List ℕ} {count : ℕ} {ms os : List Member} → Offsets x t ms offsets count → Offsets x t os offsets count → namesOf ms ≡ namesOf os
+names-same {ms = ms} {os} o u = ext-getD [] (namesOf ms) (namesOf os) (names-all o ∙ sym (names-all u)) (λ k l. name-is o (omega (arith, names-all o)) ∙ sym (name-is u (omega (arith, names-all o))))
+
+pub alone-are : {x t : List ℕ} {index : Index} → Ready x t index → Alone x t (index .offsets) (index .count)
+alone-are d = let u = offsets-are d (d .stands) (d .few) in record { is = λ ms o k l. rw (names-same o u) (d .alone k (omega (arith, u .all))) }
 
 pub links-given : {x t : List ℕ} {index : Index} {best r : ℕ} → Ready x t index → AllGive x t (index .offsets) (index .count) best r → LinksGive x t best r
 unfolding linkFaults

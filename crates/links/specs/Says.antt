@@ -33,6 +33,10 @@ pub record Kept (x t offsets : List ℕ) (count : ℕ) (memo : List ℕ) : Type 
   pub room : length memo ≡ 32784
   pub is : (ms : List Member) → Offsets x t ms offsets count → (q : ℕ) → (getD memo q 0 ≡ 0) ⊎ (getD memo q 0 ≡ numberOf (namesOf ms) (textAt x t (3 * q)) + 1)
 
+-- no two objects have the same ID: the number of each ID is its place
+pub record Alone (x t offsets : List ℕ) (count : ℕ) : Type 0 where
+  pub is : (ms : List Member) → Offsets x t ms offsets count → (k : ℕ) → k < count → numberOf (namesOf ms) (getD (namesOf ms) k []) ≡ k
+
 -- the IDs of a list of values and those that were listed before, the last first
 unfoldable pub seen : List (List ℕ) → List Json → List (List ℕ)
 unfolding idsAmong

@@ -10,7 +10,7 @@ ghost use Rattle.nodes.specs.Faults.{least};
 ghost use Rattle.nodes.specs.Says.{Node, Sought, Seeks, Gives};
 ghost use Rattle.ids.specs.Says.{TextNode, Objects, Numbers};
 ghost use Rattle.links.specs.Links.{hasParent};
-ghost use Rattle.links.specs.Says.{Numbered, Kept, MarkGives, MarksGive, ObjectMarks, AllMarks, Filled, OpenGives, OpensGive, ObjectOpens, AllOpens, Empty, AllGive, Ready, LinksGive};
+ghost use Rattle.links.specs.Says.{Numbered, Kept, Alone, MarkGives, MarksGive, ObjectMarks, AllMarks, Filled, OpenGives, OpensGive, ObjectOpens, AllOpens, Empty, AllGive, Ready, LinksGive};
 
 // A number of the memo, as a number of full width.
 fn wide(w: u16) -> usize
@@ -334,7 +334,7 @@ fn answer_object(
     k: usize,
     best: u32,
 ) -> u32
-    requires { ⌜ (Numbered (now text) (now table) (now offsets) count (now heads) (now nexts)) × (Filled (now text) (now table) (now offsets) count (now children) (now parents)) × (k < count) × (Kept (now text) (now table) (now offsets) count (now memo)) ⌝ }
+    requires { ⌜ (Numbered (now text) (now table) (now offsets) count (now heads) (now nexts)) × (Filled (now text) (now table) (now offsets) count (now children) (now parents)) × (k < count) × (Kept (now text) (now table) (now offsets) count (now memo)) × (Alone (now text) (now table) (now offsets) count) ⌝ }
     ensures { λ r. ⌜ ObjectOpens (now (text .entry)) (now (table .entry)) (now (offsets .entry)) count k best r ⌝ }
 {
     let name = offsets[k];
@@ -343,7 +343,6 @@ fn answer_object(
     let down = nodes::member(text, table, i, b"children");
     let up = nodes::member(text, table, i, b"parents");
     let group = fields::found_word(text, table, kind, b"CityObjectGroup");
-    let own = ids::number(text, table, offsets, count, heads, nexts, name);
     let a = answer_list(
         text,
         table,
@@ -353,7 +352,7 @@ fn answer_object(
         nexts,
         memo,
         parents,
-        own,
+        k,
         group,
         down,
         best,
@@ -367,7 +366,7 @@ fn answer_object(
         nexts,
         memo,
         children,
-        own,
+        k,
         false,
         up,
         a,
@@ -388,7 +387,7 @@ fn answer_all(
     parents: &[u8],
     best: u32,
 ) -> u32
-    requires { ⌜ (Numbered (now text) (now table) (now offsets) count (now heads) (now nexts)) × (Filled (now text) (now table) (now offsets) count (now children) (now parents)) × (Kept (now text) (now table) (now offsets) count (now memo)) ⌝ }
+    requires { ⌜ (Numbered (now text) (now table) (now offsets) count (now heads) (now nexts)) × (Filled (now text) (now table) (now offsets) count (now children) (now parents)) × (Kept (now text) (now table) (now offsets) count (now memo)) × (Alone (now text) (now table) (now offsets) count) ⌝ }
     ensures { λ r. ⌜ AllOpens (now (text .entry)) (now (table .entry)) (now (offsets .entry)) count best r ⌝ }
 {
     let mut least = best;
@@ -422,7 +421,7 @@ fn links_with(
     parents: &mut [u8],
     best: u32,
 ) -> u32
-    requires { ⌜ (Objects (now text) (now table) (now offsets) count) × (Empty (now children) count) × (Empty (now parents) count) ⌝ }
+    requires { ⌜ (Objects (now text) (now table) (now offsets) count) × (Empty (now children) count) × (Empty (now parents) count) × (Alone (now text) (now table) (now offsets) count) ⌝ }
     ensures { λ r. ⌜ AllGive (now (text .entry)) (now (table .entry)) (now (offsets .entry)) count best r ⌝ }
 {
     let mut heads: [u16; 4096] = [0; 4096];
@@ -457,7 +456,7 @@ fn links_with(
 
 // Rules 15 to 17 of at most 64 objects. Small sets are cleared sooner.
 fn links_few(text: &[u8], table: &[u32], offsets: &[usize; 1024], count: usize, best: u32) -> u32
-    requires { ⌜ (Objects (now text) (now table) (now offsets) count) × (count ≤ 64) ⌝ }
+    requires { ⌜ (Objects (now text) (now table) (now offsets) count) × (count ≤ 64) × (Alone (now text) (now table) (now offsets) count) ⌝ }
     ensures { λ r. ⌜ AllGive (now (text .entry)) (now (table .entry)) (now (offsets .entry)) count best r ⌝ }
 {
     let mut first: [u8; 8192] = [0; 8192];
@@ -469,7 +468,7 @@ fn links_few(text: &[u8], table: &[u32], offsets: &[usize; 1024], count: usize, 
 
 // Rules 15 to 17 of at most 1,024 objects.
 fn links_many(text: &[u8], table: &[u32], offsets: &[usize; 1024], count: usize, best: u32) -> u32
-    requires { ⌜ Objects (now text) (now table) (now offsets) count ⌝ }
+    requires { ⌜ (Objects (now text) (now table) (now offsets) count) × (Alone (now text) (now table) (now offsets) count) ⌝ }
     ensures { λ r. ⌜ AllGive (now (text .entry)) (now (table .entry)) (now (offsets .entry)) count best r ⌝ }
 {
     let mut first: [u8; 131072] = [0; 131072];

@@ -3,9 +3,9 @@ use mathlib.Core.Path.{refl}
 use native.Mathlib.Omega.{arith}
 use Rattle.utf8.specs.Ascii.{ascii}
 use Rattle.shapes.specs.Laws.{seeks-find}
-use Rattle.ids.proofs.Rules.{object-onward, object-text}
+use Rattle.ids.proofs.Rules.{object-onward}
 use Rattle.links.proofs.Rules.{sweeping, sought-in, object-at}
-use Rattle.links.proofs.Sweeps.{own-below, object-opens}
+use Rattle.links.proofs.Sweeps.{object-opens}
 use Rattle.links.proofs.answer_object.Statement.{statement}
 use Rattle.links.proofs.answer_object.Tie as tie
 
@@ -27,23 +27,20 @@ member-requires-3 c κs = let p = c .before .before .before .before .before .bef
 found-word-requires : tie.Need-found-word-requires
 found-word-requires c κs = let p = c .before .before .before .before .before .before .before .before .before .before .before .before .pre in (sought-in (c .before .before .before .before .before .member .ensures) (object-at (p .0) (p .2)), search sweeping)
 
-number-requires : tie.Need-number-requires
-number-requires c κs = let p = c .before .before .before .before .before .before .before .before .before .before .before .before .before .pre in (p .0 .objects, object-text (p .0 .objects) (p .2), p .0 .chains)
-
 answer-list-requires : tie.Need-answer-list-requires
-answer-list-requires c κs = let p = c .before .before .before .before .before .before .before .before .before .before .before .before .before .before .pre in (p .0, sought-in (c .before .before .before .before .before .member2 .ensures) (object-at (p .0) (p .2)), own-below (p .0 .objects) (c .number .ensures) (p .2), p .1 .above, p .3)
+answer-list-requires c κs = let p = c .before .before .before .before .before .before .before .before .before .before .before .before .before .pre in (p .0, sought-in (c .before .before .before .before .member2 .ensures) (object-at (p .0) (p .2)), p .2, p .1 .above, p .3)
 
 answer-list-requires-2 : tie.Need-answer-list-requires-2
-answer-list-requires-2 c κs = let p = c .before .before .before .before .before .before .before .before .before .before .before .before .before .before .before .pre in (p .0, sought-in (c .before .before .before .before .member3 .ensures) (object-at (p .0) (p .2)), own-below (p .0 .objects) (c .before .number .ensures) (p .2), p .1 .below, p .3)
+answer-list-requires-2 c κs = let p = c .before .before .before .before .before .before .before .before .before .before .before .before .before .before .pre in (p .0, sought-in (c .before .before .before .member3 .ensures) (object-at (p .0) (p .2)), p .2, p .1 .below, p .3)
 
 has-parent-requires : tie.Need-has-parent-requires
 unfolding ascii
-has-parent-requires c κs = let p = c .before .before .before .before .before .before .before .before .before .before .before .before .before .before .before .before .pre in (object-at (p .0) (p .2), seeks-find "type" refl (c .before .before .before .before .before .before .before .before .before .member .ensures), seeks-find "parents" refl (c .before .before .before .before .before .member3 .ensures))
+has-parent-requires c κs = let p = c .before .before .before .before .before .before .before .before .before .before .before .before .before .before .before .pre in (object-at (p .0) (p .2), seeks-find "type" refl (c .before .before .before .before .before .before .before .before .member .ensures), seeks-find "parents" refl (c .before .before .before .before .member3 .ensures))
 
 returns : tie.Need-returns
 unfolding ascii
 returns c =
-    object-opens (seeks-find "type" refl (c .before .before .before .before .before .before .before .before .before .before .member .ensures)) (seeks-find "children" refl (c .before .before .before .before .before .before .before .before .member2 .ensures)) (seeks-find "parents" refl (c .before .before .before .before .before .before .member3 .ensures)) (c .before .before .before .before .found-word .ensures) (c .before .before .before .number .ensures) (c .before .before .before .before .before .before .before .before .before .before .before .before .before .before .before .before .before .pre .1) (c .before .before .before .before .before .before .before .before .before .before .before .before .before .before .before .before .before .pre .2)
+    object-opens (seeks-find "type" refl (c .before .before .before .before .before .before .before .before .before .member .ensures)) (seeks-find "children" refl (c .before .before .before .before .before .before .before .member2 .ensures)) (seeks-find "parents" refl (c .before .before .before .before .before .member3 .ensures)) (c .before .before .before .found-word .ensures) (c .before .before .before .before .before .before .before .before .before .before .before .before .before .before .before .before .pre .4) (c .before .before .before .before .before .before .before .before .before .before .before .before .before .before .before .before .pre .1) (c .before .before .before .before .before .before .before .before .before .before .before .before .before .before .before .before .pre .2)
     (c .before .before .answer-list .ensures) (c .before .answer-list2 .ensures) (c .has-parent .ensures)
 
 pub answer-object-spec : {M : Type 1} → statement M
@@ -61,7 +58,6 @@ answer-object-spec =
     member-requires-3
     (λ c. search sweeping)
     found-word-requires
-    number-requires
     answer-list-requires
     answer-list-requires-2
     has-parent-requires

@@ -6,7 +6,7 @@ use Rattle.links.proofs.links_few.Statement.{statement}
 use Rattle.links.proofs.links_few.Tie as tie
 
 links-with-requires : tie.Need-links-with-requires
-links-with-requires c κs = (c .before .before .before .before .pre .0, emptied 8192 refl (omega (arith, c .before .before .before .before .pre .1)), emptied 8192 refl (omega (arith, c .before .before .before .before .pre .1)))
+links-with-requires c κs = let p = c .before .before .before .before .pre in (p .0, emptied 8192 refl (omega (arith, p .1)), emptied 8192 refl (omega (arith, p .1)), p .2)
 
 pub links-few-spec : {M : Type 1} → statement M
 links-few-spec = tie.close (tie.spec (λ c. search sweeping) (λ c. search sweeping) links-with-requires (λ c. search sweeping))

@@ -14,7 +14,7 @@ mark-all-requires : tie.Need-mark-all-requires
 mark-all-requires c κs = let p = c .before .before .before .before .before .before .before .before .before .before .before .before .pre in (numbered (p .0) (c .before .before .before .before .before .fill .ensures), p .1 .room, p .2 .room, kept-none refl)
 
 answer-all-requires : tie.Need-answer-all-requires
-answer-all-requires c κs = let p = c .before .before .before .before .before .before .before .before .before .before .before .before .before .before .before .before .before .before .before .before .before .before .pre in (numbered (p .0) (c .before .before .before .before .before .before .before .before .before .before .before .before .before .before .before .fill .ensures), filled-all (p .1) (p .2) (c .before .before .before .before .before .before .before .before .before .mark-all .ensures .0), c .before .before .before .before .before .before .before .before .before .mark-all .ensures .1)
+answer-all-requires c κs = let p = c .before .before .before .before .before .before .before .before .before .before .before .before .before .before .before .before .before .before .before .before .before .before .pre in (numbered (p .0) (c .before .before .before .before .before .before .before .before .before .before .before .before .before .before .before .fill .ensures), filled-all (p .1) (p .2) (c .before .before .before .before .before .before .before .before .before .mark-all .ensures .0), c .before .before .before .before .before .before .before .before .before .mark-all .ensures .1, p .3)
 
 returns : tie.Need-returns
 returns c = let p = c .before .before .before .before .before .before .before .before .before .before .before .before .before .before .before .before .before .before .before .before .before .before .before .pre in all-given (p .1) (p .2) (c .before .before .before .before .before .before .before .before .before .before .mark-all .ensures .0) (c .answer-all .ensures)
