@@ -12,9 +12,9 @@ use borrow.Author.Tests.{eq-eqb, ne-eqb}
 use Rattle.utf8.specs.Utf8.{same}
 use Rattle.strings.specs.Laws.{has-append}
 use Rattle.strings.specs.Spans.{Span, decodeAt, hasByte}
-use Rattle.strings.specs.Parts.{Agree}
+use Rattle.strings.specs.Parts.{Spelled, Agree}
 use Rattle.strings.proofs.Pieces.{onward}
-use Rattle.strings.proofs.Loops.{at-end, both-end, plain-both-more}
+use Rattle.strings.proofs.Loops.{at-end, both-end, plain-word-wrong, plain-word-more, plain-both-more}
 
 or-assoc : (a b c : Bool) → ((a || b) || c) ≡ (a || (b || c))
 or-assoc true b c = refl
@@ -79,6 +79,43 @@ module _ (x : List ℕ) (i : ℕ) (all : Bool) (e : all ≡ hasByte 92 (drop i x
 
 pub has-room : (x : List ℕ) (i : ℕ) → i ≤ length x → 16 ≤ length x - i → i + 16 ≤ length x
 has-room x i h l = omega arith
+
+-- a word and as many bytes of the text, byte by byte
+pub spelled-none : (x : List ℕ) (at : ℕ) (w : List ℕ) → Spelled x at w false
+unfolding Spelled
+spelled-none x at w = tt
+
+module _ (x : List ℕ) (at : ℕ) (w : List ℕ) (h : at + length w ≤ length x) where
+  pub spell-begin : same w (decodeAt x at (at + length w)) ≡ same (drop 0 w) (decodeAt x (at + 0) (at + length w))
+  spell-begin = let z : at + 0 ≡ at = omega arith in rw z
+
+  module _ (k : ℕ) (q : same w (decodeAt x at (at + length w)) ≡ same (drop k w) (decodeAt x (at + k) (at + length w))) where
+    rest : k ≤ length w → Span x (at + k) (at + length w)
+    rest l = record { low = omega arith; high = h }
+
+    pub spell-more : k < length w → getD x (at + k) 0 ≡ getD w k 0 → (getD x (at + k) 0 ≡ 92 → ⊥) → same w (decodeAt x at (at + length w)) ≡ same (drop (k + 1) w) (decodeAt x (at + (k + 1)) (at + length w))
+    spell-more l f n =
+        let z : at + k + 1 ≡ at + (k + 1) = omega arith in
+        rw z at (plain-word-more (rest (omega arith)) (omega arith) n w _ w k q (omega arith) (λ e. omega arith) (sym f))
+
+    pub spell-done : k ≤ length w → length w ≤ k → Spelled x at w true
+    unfolding Spelled
+    spell-done l g =
+        let z : decodeAt x (at + k) (at + length w) ≡ [] = at-end (rest l) (omega arith) in
+        both-end _ _ _ _ q (drop-of-length-le w {i = k} g) z
+
+-- the string from at up to end, and a word
+module _ (x : List ℕ) (at end : ℕ) (w : List ℕ) (s : Span x at end) where
+  pub begins-other : at < end → 0 < length w → (getD x at 0 ≡ getD w 0 0 → ⊥) → (getD x at 0 ≡ 92 → ⊥) → false ≡ same w (decodeAt x at end)
+  begins-other a b f n = plain-word-wrong s a n w _ w 0 refl (omega arith) (λ e. omega arith) (λ e. f (sym e))
+
+  module _ (q : end - at ≡ length w) where
+    pub spell-room : at + length w ≤ length x
+    spell-room = omega (arith, s .low, s .high)
+
+    pub spelled-same : (r : Bool) → Spelled x at w r → r ≡ true → true ≡ same w (decodeAt x at end)
+    unfolding Spelled
+    spelled-same r a z = let e : at + length w ≡ end = omega (arith, s .low) in rw (z, e) at a
 
 -- two strings of one length, byte by byte
 pub agree-none : (x : List ℕ) (at end at2 : ℕ) → Agree x at end at2 false

@@ -3,7 +3,7 @@ use Prim.Native.Nat.{ℕ, _+_, _-_, _*_, _≤_, _<_}
 use mathlib.Core.Path.{_≡_}
 use mathlib.Core.Bool.{Bool, true, false}
 use mathlib.Core.List.{List, [], _∷_, _++_}
-use lib.ListN.{getD}
+use lib.ListN.{length, getD}
 use lib.Seq.{slice}
 use Rattle.utf8.specs.Utf8.{encode, same}
 use Rattle.strings.specs.Strings.{Piece, byte, unit, plain, pieces, hexValue, isLow, alone}
@@ -81,6 +81,11 @@ pub record IsSpread (u at end b : ℕ) (d : Cursor) : Type 0 where
 unfoldable pub Spreads : ℕ → ℕ → ℕ → Step → Type 0
 Spreads u at end (Byte b d) = IsSpread u at end b d
 Spreads u at end Done = ⊥
+
+-- a look at as many bytes as the word w has tells that they stand for w, or nothing
+unfoldable pub Spelled : List ℕ → ℕ → List ℕ → Bool → Type 0
+Spelled x at w true = true ≡ same w (decodeAt x at (at + length w))
+Spelled x at w false = Unit
 
 -- a look at two strings of one length tells that they stand for the same bytes, or nothing
 unfoldable pub Agree : List ℕ → ℕ → ℕ → ℕ → Bool → Type 0

@@ -6,7 +6,7 @@ ghost use lib.Seq.{slice};
 ghost use Rattle.utf8.specs.Utf8.{encode, same};
 ghost use Rattle.strings.specs.Strings.{hexValue, escaped, paired};
 ghost use Rattle.strings.specs.Spans.{Span, decodeAt, unpairedAt, ahead, away, Steps, Copied, firstOf, hasByte};
-ghost use Rattle.strings.specs.Parts.{unitAt, Halves, Escapes, Spreads, Agree};
+ghost use Rattle.strings.specs.Parts.{unitAt, Halves, Escapes, Spreads, Spelled, Agree};
 
 // A place in a string that is being decoded. `word` holds the bytes of a character that are still to be handed out, the next one in its lowest eight bits, and `left` how many they are.
 pub struct Cursor {
@@ -303,8 +303,8 @@ fn is_word_ahead(text: &[u8], from: Cursor, word: &[u8], start: usize) -> bool
     }
 }
 
-// Does the string stand for `word`?
-pub fn is_word(text: &[u8], at: usize, end: usize, word: &[u8]) -> bool
+// Does the string stand for `word`? Byte by byte up to a backslash, and from there on decoded.
+fn is_word_decoded(text: &[u8], at: usize, end: usize, word: &[u8]) -> bool
     requires { ⌜ Span (now text) at end ⌝ }
     ensures { λ r. ⌜ r ≡ same (now (word .entry)) (decodeAt (now (text .entry)) at end) ⌝ }
 {
@@ -335,6 +335,48 @@ pub fn is_word(text: &[u8], at: usize, end: usize, word: &[u8]) -> bool
         k += 1;
     }
     k == word.len()
+}
+
+// Are the bytes from `at` on those of `word`, with no backslash among them?
+fn spells(text: &[u8], at: usize, word: &[u8]) -> bool
+    requires { ⌜ at + length (now word) ≤ length (now text) ⌝ }
+    ensures { λ r. ⌜ Spelled (now (text .entry)) at (now (word .entry)) r ⌝ }
+{
+    let mut k = 0;
+    while k < word.len() {
+        let b = text[at + k];
+        if b != word[k] {
+            return false;
+        }
+        if b == b'\\' {
+            return false;
+        }
+        k += 1;
+    }
+    true
+}
+
+// Does the string stand for `word`? Most that do are spelled so, and most that do not begin with another byte.
+pub fn is_word(text: &[u8], at: usize, end: usize, word: &[u8]) -> bool
+    requires { ⌜ Span (now text) at end ⌝ }
+    ensures { λ r. ⌜ r ≡ same (now (word .entry)) (decodeAt (now (text .entry)) at end) ⌝ }
+{
+    if at < end {
+        if word.len() > 0 {
+            if text[at] != word[0] {
+                if text[at] != b'\\' {
+                    return false;
+                }
+            }
+        }
+    }
+    if end - at != word.len() {
+        return is_word_decoded(text, at, end, word);
+    }
+    if spells(text, at, word) {
+        return true;
+    }
+    is_word_decoded(text, at, end, word)
 }
 
 // Do two cursors have the same bytes ahead?

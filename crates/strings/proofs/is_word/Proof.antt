@@ -1,34 +1,20 @@
--- `strings::is_word` meets its contract. The loop: the answer is that of comparing what is left of the word with what is left of the string. Assumes nothing.
-use Prim.Native.Nat.{_≤_, _-_}
-use mathlib.Core.Path.{_≡_}
-use lib.ListN.{length, drop}
-use Rattle.utf8.specs.Utf8.{same}
-use Rattle.strings.specs.Spans.{Span, decodeAt}
-use Rattle.strings.proofs.Rules.{turns}
+-- `strings::is_word` meets its contract. Assumes nothing.
+use Rattle.strings.proofs.Rules.{scans}
 use Rattle.strings.proofs.is_word.Statement.{statement}
 use Rattle.strings.proofs.is_word.Tie as tie
-
-abbrev Inv-loop : tie.InvT-loop
-Inv-loop text at end word i₀ k₀ i k = (Span text i end) × (k ≤ length word) × (same word (decodeAt text at end) ≡ same (drop k word) (decodeAt text i end))
-
-abbrev μ-loop : tie.MeasureT-loop
-μ-loop text at end word i₀ k₀ i k = end - i
 
 pub is-word-spec : {M : Type 1} → statement M
 is-word-spec =
     tie.close
     (tie.spec
-    Inv-loop
-    μ-loop
-    (λ c. search turns)
-    (λ c. search turns)
-    (λ c κs. search turns)
-    (λ c. search turns)
-    (λ c. search turns)
-    (λ c. search turns)
-    (λ c. search turns)
-    (λ c. search turns)
-    (λ c. search turns)
-    (λ c. search turns)
-    (λ c. search turns)
-    (λ c. search turns))
+    (λ c. search scans)
+    (λ c. search scans)
+    (λ c. search scans)
+    (λ c. search scans)
+    (λ c. search scans)
+    (λ c κs. search scans)
+    (λ c. search scans)
+    (λ c κs. search scans)
+    (λ c. search scans)
+    (λ c κs. search scans)
+    (λ c. search scans))
