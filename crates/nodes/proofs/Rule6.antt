@@ -10,7 +10,8 @@ use borrow.Author.Needs.{needs}
 use borrow.Author.Tests.{eq-eqb, ne-eqb, not-true, not-false}
 use Rattle.utf8.specs.Utf8.{same}
 use Rattle.strings.specs.Strings.{decode}
-use Rattle.strings.specs.Spans.{decodeAt}
+use Rattle.strings.specs.Spans.{decodeAt, beginApart}
+use Rattle.strings.specs.Laws.{apart-differ}
 use Rattle.json.specs.Tree.{Json, Members, member, with, Name}
 use Rattle.json.specs.Tree as tree
 use Rattle.json.specs.Table.{widths, Quoted, Sub, Fields, last, field}
@@ -74,18 +75,23 @@ module _ {x t : List ℕ} {first k : ℕ} where
   compare-begin d = record { node = d; walk = record { members = d .before; stand = d .stand; ends = d .ends }; left = λ ms f e. record { members = ms; stand = f; ends = e; holds = among-named ms (textAt x t k) } }
 
   module _ {j : ℕ} (c : Compares x t first k j) where
-    module _ {p e p′ e′ : ℕ} {b : Bool} (l : j < k) (q : p ≡ getD t j 0) (r : e ≡ getD t (j + 1) 0) (q′ : p′ ≡ getD t k 0) (r′ : e′ ≡ getD t (k + 1) 0) (s : b ≡ same (decodeAt x (p + 1) (e - 1)) (decodeAt x (p′ + 1) (e′ - 1))) where
-      tested : {P : Members → Type 0} (u : MemberPast x t j k P) → same (decode (u .key .raw)) (textAt x t k) ≡ b
-      unfolding textAt
-      tested u = rw (quoted-at (u .quoted) .text, ← q, ← r, ← q′, ← r′) (sym s)
+    module _ {p e p′ e′ : ℕ} (l : j < k) (q : p ≡ getD t j 0) (r : e ≡ getD t (j + 1) 0) (q′ : p′ ≡ getD t k 0) (r′ : e′ ≡ getD t (k + 1) 0) where
+      module _ {b : Bool} (s : b ≡ same (decodeAt x (p + 1) (e - 1)) (decodeAt x (p′ + 1) (e′ - 1))) where
+        tested : {P : Members → Type 0} (u : MemberPast x t j k P) → same (decode (u .key .raw)) (textAt x t k) ≡ b
+        unfolding textAt
+        tested u = rw (quoted-at (u .quoted) .text, ← q, ← r, ← q′, ← r′) (sym s)
 
-      pub compare-found : b ≡ true → Repeats x t first k true
-      unfolding named
-      compare-found h = record { is = λ ms f z. let u = member-past (c .left ms f z) l in sym (u .holds ∙ rw (tested u, h)) }
+        pub compare-found : b ≡ true → Repeats x t first k true
+        unfolding named
+        compare-found h = record { is = λ ms f z. let u = member-past (c .left ms f z) l in sym (u .holds ∙ rw (tested u, h)) }
 
-      pub compare-again : {m : ℕ} → b ≡ false → m ≡ getD t (j + 3 + 2) 0 → Compares x t first k m
-      unfolding named
-      compare-again h o = record { node = c .node; walk = walk-on (c .walk) l o; left = λ ms f z. let u = member-past (c .left ms f z) l in rw o (member-over u (u .holds ∙ rw (tested u, h))) }
+        pub compare-again : {m : ℕ} → b ≡ false → m ≡ getD t (j + 3 + 2) 0 → Compares x t first k m
+        unfolding named
+        compare-again h o = record { node = c .node; walk = walk-on (c .walk) l o; left = λ ms f z. let u = member-past (c .left ms f z) l in rw o (member-over u (u .holds ∙ rw (tested u, h))) }
+
+      -- names that begin apart are not the same
+      pub compare-apart : {b : Bool} {m : ℕ} → b ≡ beginApart x (p + 1) (e - 1) (p′ + 1) (e′ - 1) → not b ≡ false → m ≡ getD t (j + 3 + 2) 0 → Compares x t first k m
+      compare-apart {b} s h o = compare-again refl (apart-differ (walk-span (c .walk) l q r) (string-span (c .node .string) q′ r′) (sym s ∙ not-false b h)) o
 
     pub compare-done : k ≤ j → Repeats x t first k false
     unfolding named

@@ -197,8 +197,10 @@ fn repeats(text: &[u8], table: &[u32], first: usize, k: usize) -> bool
     while j < k {
         let from2 = start(table, j);
         let to2 = end(table, j);
-        if strings::same_string(text, from2 + 1, to2 - 1, from + 1, to - 1) {
-            return true;
+        if !strings::apart(text, from2 + 1, to2 - 1, from + 1, to - 1) {
+            if strings::same_string(text, from2 + 1, to2 - 1, from + 1, to - 1) {
+                return true;
+            }
         }
         j = next(table, j + 3);
     }

@@ -3,15 +3,15 @@ use Prim.Native.Nat.{ℕ, zero, suc, _+_, _-_, _≤_, _<_}
 use native.Mathlib.Omega.{arith}
 use native.Mathlib.Numerals.{add-one}
 use mathlib.Core.Path.{_≡_, refl, sym, ap, _∙_}
-use mathlib.Core.Bool.{Bool, true, false, _||_}
+use mathlib.Core.Bool.{Bool, true, false, not, _||_}
 use mathlib.Core.List.{List, [], _∷_, _++_}
 use lib.ListN.{length, getD, take, drop, drop-of-length-le, take-append-drop}
 use lib.Seq.{slice, slice-cons, slice-empty, drop-cons}
 use lib.Dec.{eqb}
-use borrow.Author.Tests.{eq-eqb, ne-eqb}
+use borrow.Author.Tests.{lt-ltb, le-ltb, eq-eqb, ne-eqb}
 use Rattle.utf8.specs.Utf8.{same}
 use Rattle.strings.specs.Laws.{has-append}
-use Rattle.strings.specs.Spans.{Span, decodeAt, hasByte}
+use Rattle.strings.specs.Spans.{Span, decodeAt, hasByte, beginApart}
 use Rattle.strings.specs.Parts.{Spelled, Agree}
 use Rattle.strings.proofs.Pieces.{onward}
 use Rattle.strings.proofs.Loops.{at-end, both-end, plain-word-wrong, plain-word-more, plain-both-more}
@@ -150,3 +150,28 @@ module _ (x : List ℕ) (at end at2 end2 : ℕ) (t : Span x at2 end2) (q : end -
   pub agree-same : (r : Bool) → Agree x at end at2 r → r ≡ true → true ≡ same (decodeAt x at end) (decodeAt x at2 end2)
   unfolding Agree
   agree-same r a z = let w : at2 + (end - at) ≡ end2 = omega (arith, t .low) in rw (z, w) at a
+
+-- the first bytes of two strings
+module _ (x : List ℕ) (at end at2 end2 : ℕ) where
+  pub apart-none : end ≤ at → false ≡ beginApart x at end at2 end2
+  unfolding beginApart
+  apart-none l = rw (le-ltb at end l)
+
+  module _ (l : at < end) where
+    pub apart-none2 : end2 ≤ at2 → false ≡ beginApart x at end at2 end2
+    unfolding beginApart
+    apart-none2 m = rw (lt-ltb at end l, le-ltb at2 end2 m)
+
+    module _ (m : at2 < end2) where
+      pub apart-alike : getD x at 0 ≡ getD x at2 0 → false ≡ beginApart x at end at2 end2
+      unfolding beginApart
+      apart-alike e = rw (lt-ltb at end l, lt-ltb at2 end2 m, eq-eqb (getD x at 0) (getD x at2 0) e)
+
+      module _ (d : getD x at 0 ≡ getD x at2 0 → ⊥) where
+        pub apart-slash : getD x at 0 ≡ 92 → false ≡ beginApart x at end at2 end2
+        unfolding beginApart
+        apart-slash e = rw (lt-ltb at end l, lt-ltb at2 end2 m, ne-eqb (getD x at 0) (getD x at2 0) d, eq-eqb (getD x at 0) 92 e)
+
+        pub apart-second : (getD x at 0 ≡ 92 → ⊥) → not (eqb (getD x at2 0) 92) ≡ beginApart x at end at2 end2
+        unfolding beginApart
+        apart-second n = rw (lt-ltb at end l, lt-ltb at2 end2 m, ne-eqb (getD x at 0) (getD x at2 0) d, ne-eqb (getD x at 0) 92 n)

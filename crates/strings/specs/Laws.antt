@@ -1,16 +1,18 @@
--- Laws of decoding: where a string stands does not change what it stands for; it stands for no more bytes than it has; the places of its unpaired surrogates are in increasing order, and there are none where no byte is a backslash.
+-- Laws of decoding: where a string stands does not change what it stands for; it stands for no more bytes than it has; strings that begin apart do not stand for the same bytes; the places of its unpaired surrogates are in increasing order, and there are none where no byte is a backslash.
 -- Assumes nothing.
 use Prim.Native.Nat.{ℕ, zero, suc, _+_, _-_, _*_, _/_, _≤_, _<_}
 use native.Mathlib.Omega.{arith}
 use mathlib.Core.Path.{_≡_, refl, ap, sym, _∙_, subst}
-use mathlib.Core.Bool.{Bool, true, false, cond, _&&_, _||_}
+use mathlib.Core.Bool.{Bool, true, false, cond, not, _&&_, _||_}
 use mathlib.Core.Logic.{⊎-elim}
 use mathlib.Core.List.{List, [], _∷_, _++_, append-nil, List·Memᴰ, List·Memᴰ·not-nil, List·Memᴰ·cases-cons}
-use lib.ListN.{length, take, drop, length-append, take-append-drop}
+use lib.ListN.{length, getD, take, drop, length-append, take-append-drop}
 use lib.Dec.{eqb, leb, ltb}
-use lib.Seq.{slice, length-slice}
-use Rattle.utf8.specs.Utf8.{encode}
-use Rattle.strings.specs.Spans.{Span, decodeAt, unpairedAt, pending, ahead, away, firstOf, hasByte}
+use lib.Seq.{slice, slice-cons, length-slice}
+use borrow.Author.Tests.{ltb-true, not-true}
+use Rattle.utf8.specs.Utf8.{encode, same}
+use Rattle.utf8.specs.Laws.{both-left, both-right}
+use Rattle.strings.specs.Spans.{Span, decodeAt, unpairedAt, pending, ahead, away, firstOf, hasByte, beginApart}
 use Rattle.strings.specs.declared.Cursor.{Cursor}
 use Rattle.strings.specs.declared.Found.the-variants.{At}
 use Rattle.strings.specs.Strings.{Piece, byte, unit, Mark, plain, slash, hex, hexValue, escaped, next, ended, pieces, isHigh, isLow, paired, decoded, decode, alone, unpaired, unpairedFrom}
@@ -124,6 +126,26 @@ decode-short raw = omega (arith, length-decoded (pieces plain 0 raw), weight-pie
 pub decodeAt-short : (x : List ℕ) (at end : ℕ) → end ≤ length x → length (decodeAt x at end) ≤ end - at
 unfolding decodeAt
 decodeAt-short x at end h = omega (arith, decode-short (slice at end x), length-slice at end x h)
+
+first-stands : {x : List ℕ} {at end : ℕ} → Span x at end → ltb at end ≡ true → not (eqb (getD x at 0) 92) ≡ true → decodeAt x at end ≡ getD x at 0 ∷ decoded (pieces plain 1 (slice (suc at) end x))
+unfolding decodeAt decode pieces ended next decoded
+first-stands {x} {at} {end} s l n = rw (slice-cons at end x 0 (ltb-true at end l) (s .high), not-true (eqb (getD x at 0) 92) n)
+
+each : (a b c d e : Bool) → a && b && c && d && e ≡ true → (a ≡ true) × (b ≡ true) × (c ≡ true) × (d ≡ true) × (e ≡ true)
+each a b c d e q =
+    let q3 = both-left (a && b && c && d) e q in
+    let q2 = both-left (a && b && c) d q3 in
+    let q1 = both-left (a && b) c q2 in
+    (both-left a b q1, both-right a b q1, both-right (a && b) c q2, both-right (a && b && c) d q3, both-right (a && b && c && d) e q)
+
+-- strings that begin with different bytes, neither of them a backslash, do not stand for the same bytes
+pub apart-differ : {x : List ℕ} {at end at2 end2 : ℕ} → Span x at end → Span x at2 end2 → beginApart x at end at2 end2 ≡ true → same (decodeAt x at end) (decodeAt x at2 end2) ≡ false
+unfolding beginApart same
+apart-differ {x} {at} {end} {at2} {end2} s t q =
+    let a = getD x at 0 in
+    let b = getD x at2 0 in
+    let z = each (ltb at end) (ltb at2 end2) (not (eqb a b)) (not (eqb a 92)) (not (eqb b 92)) q in
+    rw (first-stands s (z .0) (z .3), first-stands t (z .1) (z .4), not-true (eqb a b) (z .2))
 
 -- a cursor with no character begun has ahead what its part of the text stands for
 pub ahead-start : (x : List ℕ) (at end word : ℕ) → ahead x (record { at = at; end = end; word = word; left = 0 }) ≡ decodeAt x at end

@@ -2,10 +2,10 @@
 -- Assumes nothing: these are definitions.
 use Prim.Native.Nat.{ℕ, zero, suc, _+_, _-_, _/_, _%_, _≤_, _<_}
 use mathlib.Core.Path.{_≡_}
-use mathlib.Core.Bool.{Bool, false, _||_}
+use mathlib.Core.Bool.{Bool, false, not, _&&_, _||_}
 use mathlib.Core.List.{List, [], _∷_, _++_}
-use lib.ListN.{length, take, drop}
-use lib.Dec.{eqb}
+use lib.ListN.{length, getD, take, drop}
+use lib.Dec.{eqb, ltb}
 use lib.Seq.{slice}
 use Rattle.strings.specs.Strings.{decode, unpairedFrom}
 use Rattle.strings.specs.declared.Cursor.{Cursor}
@@ -68,3 +68,7 @@ firstOf (p ∷ ps) = At p
 unfoldable pub hasByte : ℕ → List ℕ → Bool
 hasByte b [] = false
 hasByte b (a ∷ l) = eqb a b || hasByte b l
+
+-- do two strings of the text begin with different bytes, neither of them a backslash?
+unfoldable pub beginApart : List ℕ → ℕ → ℕ → ℕ → ℕ → Bool
+beginApart x at end at2 end2 = ltb at end && ltb at2 end2 && not (eqb (getD x at 0) (getD x at2 0)) && not (eqb (getD x at 0) 92) && not (eqb (getD x at2 0) 92)

@@ -5,7 +5,7 @@ ghost use lib.ListN.{length, drop, getD};
 ghost use lib.Seq.{slice};
 ghost use Rattle.utf8.specs.Utf8.{encode, same};
 ghost use Rattle.strings.specs.Strings.{hexValue, escaped, paired};
-ghost use Rattle.strings.specs.Spans.{Span, decodeAt, unpairedAt, ahead, away, Steps, Copied, firstOf, hasByte};
+ghost use Rattle.strings.specs.Spans.{Span, decodeAt, unpairedAt, ahead, away, Steps, Copied, firstOf, hasByte, beginApart};
 ghost use Rattle.strings.specs.Parts.{unitAt, Halves, Escapes, Spreads, Spelled, Agree};
 
 // A place in a string that is being decoded. `word` holds the bytes of a character that are still to be handed out, the next one in its lowest eight bits, and `left` how many they are.
@@ -480,6 +480,28 @@ pub fn same_string(text: &[u8], at: usize, end: usize, at2: usize, end2: usize) 
         }
     }
     same_decoded(text, at, end, at2, end2)
+}
+
+// Do two strings begin with different bytes, neither of them a backslash? Then they do not stand for the same bytes.
+pub fn apart(text: &[u8], at: usize, end: usize, at2: usize, end2: usize) -> bool
+    requires { ⌜ (Span (now text) at end) × (Span (now text) at2 end2) ⌝ }
+    ensures { λ r. ⌜ r ≡ beginApart (now (text .entry)) at end at2 end2 ⌝ }
+{
+    if at >= end {
+        return false;
+    }
+    if at2 >= end2 {
+        return false;
+    }
+    let a = text[at];
+    let b = text[at2];
+    if a == b {
+        return false;
+    }
+    if a == b'\\' {
+        return false;
+    }
+    b != b'\\'
 }
 
 // How many bytes a character is written as.
