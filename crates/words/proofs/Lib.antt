@@ -2,6 +2,7 @@
 mod Tests
 mod Scan
 mod Guess
+mod Looks
 mod Steps
 mod Rows
 mod Rules

@@ -1,17 +1,22 @@
--- Laws of the codes: a text has a code exactly if it is one of the words; the code is the place of the word that the text is; no two words of a list are the same. Assumes nothing.
+-- Laws of the codes: a text has a code exactly if it is one of the words; the code is the place of the word that the text is; no two words of a list are the same; a string that does not look like a type of the second level is none.
+-- Assumes nothing.
 use Prim.Native.Nat.{ℕ, zero, suc, _+_, _-_, _≤_, _<_}
 use Prim.Native.String.{String}
 use native.Mathlib.Omega.{arith}
 use mathlib.Core.Path.{_≡_, refl, ap, sym, _∙_}
 use mathlib.Core.Bool.{Bool, true, false, cond, not, _&&_, _||_}
 use mathlib.Core.List.{List, [], _∷_}
-use lib.ListN.{length, getD}
-use lib.Dec.{eqb}
-use borrow.Author.Tests.{ne-eqb, eqb-true}
+use lib.ListN.{length, getD, drop}
+use lib.Seq.{slice-cons, getD-drop}
+use lib.Dec.{eqb, leb}
+use borrow.Author.Tests.{ne-eqb, eqb-true, eqb-false, leb-true, le-leb, ltb-true}
 use Rattle.utf8.specs.Ascii.{ascii}
 use Rattle.utf8.specs.Utf8.{same}
-use Rattle.utf8.specs.Laws.{both-left, both-right, same-equal}
-use Rattle.words.specs.Words.{objectWords, geometryWords, surfaceWords, codeFrom, codeOf, isOne}
+use Rattle.utf8.specs.Laws.{both-left, both-right, same-equal, never, unless}
+use Rattle.strings.specs.Strings.{next, ended, pieces, decoded, decode}
+use Rattle.strings.specs.Spans.{Span, decodeAt}
+use Rattle.strings.specs.Laws.{decodeAt-short}
+use Rattle.words.specs.Words.{objectWords, geometryWords, surfaceWords, codeFrom, codeOf, isOne, isSecondLevel, looksSecondLevel}
 
 -- a text is one of the words exactly if its code is not 0
 one-if : (b : Bool) (n m : ℕ) (o : Bool) → 1 ≤ n → o ≡ not (eqb m 0) → (b || o) ≡ not (eqb (cond b n m) 0)
@@ -105,3 +110,65 @@ object-word-code = word-code objectWords object-places
 pub object-words-differ : (j k : ℕ) → j < 33 → k < 33 → ascii (getD objectWords j "") ≡ ascii (getD objectWords k "") → j ≡ k
 unfolding objectWords
 object-words-differ = words-differ objectWords object-places
+
+-- has a word at least ten bytes, the first of them B or T?
+unfoldable longBT : List ℕ → Bool
+longBT t = leb 10 (length t) && (eqb (getD t 0 0) 66 || eqb (getD t 0 0) 84)
+
+-- so has each of some words
+unfoldable longsBT : List String → Bool
+unfolding longBT ascii
+longsBT [] = true
+longsBT (w ∷ ws) = longBT (ascii w) && longsBT ws
+
+long-at : (ws : List String) (k : ℕ) → longsBT ws ≡ true → k < length ws → longBT (ascii (getD ws k "")) ≡ true
+unfolding longsBT
+long-at [] k e h = absurd (omega arith)
+long-at (w ∷ ws) zero e h = both-left _ _ e
+long-at (w ∷ ws) (suc k) e h = long-at ws k (both-right (longBT (ascii w)) _ e) (omega arith)
+
+second-long : longsBT (drop 16 objectWords) ≡ true
+unfolding longsBT objectWords
+second-long = refl
+
+second-count : (k : ℕ) → k ≤ length objectWords → 16 < k → k - 17 < length (drop 16 objectWords)
+unfolding objectWords
+second-count k h l = omega arith
+
+-- so has each type of the second level
+second-word : (t : List ℕ) (k : ℕ) → codeOf objectWords t ≡ k → 16 < k → longBT t ≡ true
+second-word t k e h =
+    let z : k - 1 ≡ 16 + (k - 17) = omega arith in
+    let w : t ≡ ascii (getD objectWords (16 + (k - 17)) "") = rw (← z) (code-word objectWords t k e (omega arith)) in
+    rw (w, ← getD-drop 16 objectWords (k - 17) "") (long-at (drop 16 objectWords) (k - 17) second-long (second-count k (omega (arith, code-most objectWords t)) h))
+
+-- a byte that is no backslash stands for itself
+first-byte : (x : List ℕ) (at end : ℕ) → at < end → end ≤ length x → (getD x at 0 ≡ 92 → ⊥) → getD (decodeAt x at end) 0 0 ≡ getD x at 0
+unfolding decodeAt decode pieces ended next decoded
+first-byte x at end l h n = rw (slice-cons at end x 0 l h, ne-eqb (getD x at 0) 92 n)
+
+-- the first byte of such a type is B or T, or a backslash stands in its place
+last-of : (o c : Bool) → c ≡ true → (o || c) ≡ true
+last-of true c e = refl
+last-of false c e = e
+
+looks-if : (c : Bool) (a b : ℕ) → eqb b 92 ≡ c → (c ≡ false → a ≡ b) → (eqb a 66 || eqb a 84) ≡ true → (eqb b 66 || eqb b 84 || eqb b 92) ≡ true
+looks-if true a b e f q = last-of (eqb b 66 || eqb b 84) (eqb b 92) e
+looks-if false a b e f q = rw (← f refl, q)
+
+-- a string that is a type of the second level looks like one
+second-looks : (x : List ℕ) (at end : ℕ) → Span x at end → isSecondLevel (codeOf objectWords (decodeAt x at end)) ≡ true → looksSecondLevel x at end ≡ true
+unfolding isSecondLevel looksSecondLevel longBT
+second-looks x at end s e =
+    let t : List ℕ = decodeAt x at end in
+    let w : longBT t ≡ true = second-word t (codeOf objectWords t) refl (ltb-true 16 (codeOf objectWords t) e) in
+    let l : 10 ≤ length t = leb-true 10 (length t) (both-left (leb 10 (length t)) _ w) in
+    let h : 10 ≤ end - at = omega (arith, l, decodeAt-short x at end (s .high)) in
+    rw (le-leb 10 (end - at) h)
+    (looks-if (eqb (getD x at 0) 92) (getD t 0 0) (getD x at 0) refl
+    (λ c. first-byte x at end (omega arith) (s .high) (eqb-false (getD x at 0) 92 c))
+    (both-right (leb 10 (length t)) _ w))
+
+-- a string that does not look like a type of the second level is none
+pub not-second : (x : List ℕ) (at end : ℕ) → Span x at end → looksSecondLevel x at end ≡ false → isSecondLevel (codeOf objectWords (decodeAt x at end)) ≡ false
+not-second x at end s q = unless _ (λ e. never (second-looks x at end s e) q)

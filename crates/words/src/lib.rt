@@ -5,7 +5,7 @@ ghost use mathlib.Core.Bool.{true};
 ghost use mathlib.Core.List.{_∷_};
 ghost use lib.ListN.{length, getD};
 ghost use Rattle.strings.specs.Spans.{Span, decodeAt};
-ghost use Rattle.words.specs.Words.{codeOf, objectWords, geometryWords, surfaceWords, isAdded, isAddedName, isLod, isPermitted, depth, valuesDepth};
+ghost use Rattle.words.specs.Words.{codeOf, objectWords, geometryWords, surfaceWords, isAdded, isAddedName, isLod, isPermitted, looksSecondLevel, depth, valuesDepth};
 ghost use Rattle.words.specs.Tables.{wordsIn, inOrder, numberIn, isAt, guessed, tabled};
 ghost use Rattle.json.specs.Machine.{isDigit};
 
@@ -175,6 +175,22 @@ pub fn object_code(text: &[u8], at: usize, end: usize) -> usize
         &ends,
         object_guess(key(text, at, end)),
     )
+}
+
+// May the string be a type of the second level? Those have at least ten bytes and begin with B or T.
+pub fn may_be_second_level(text: &[u8], at: usize, end: usize) -> bool
+    requires { ⌜ Span (now text) at end ⌝ }
+    ensures { λ r. ⌜ r ≡ looksSecondLevel (now (text .entry)) at end ⌝ }
+{
+    if end - at < 10 {
+        return false;
+    }
+    match text[at] {
+        b'B' => true,
+        b'T' => true,
+        b'\\' => true,
+        _ => false,
+    }
 }
 
 // A guess at the place of a geometry type, counted from 0, from its key: right for every listed word that is written without escapes.
