@@ -27,18 +27,6 @@ unfolding same
 numberIn n [] t = 0
 numberIn n (w ∷ ws) t = cond (same w t) n (numberIn (n + 1) ws t)
 
--- is a text the word at i, counted from 0?
-unfoldable pub isAt : List (List ℕ) → ℕ → List ℕ → Bool
-unfolding same
-isAt [] i t = false
-isAt (w ∷ ws) zero t = same w t
-isAt (w ∷ ws) (suc i) t = isAt ws i t
-
--- the number of the word that a text is, where it is looked for at i first
-unfoldable pub guessed : List (List ℕ) → ℕ → List ℕ → ℕ
-unfolding isAt numberIn
-guessed ws i t = cond (isAt ws i t) (i + 1) (numberIn 1 ws t)
-
 -- the bytes of quoted words
 unfoldable pub spelled : List String → List (List ℕ)
 unfolding ascii

@@ -1,12 +1,11 @@
 // The words of document 01 and their codes, and which geometries an object may have.
-ghost use Prim.Native.Nat.{_<_};
+ghost use Prim.Native.Nat.{_+_, _<_};
 ghost use mathlib.Core.Path.{_≡_};
 ghost use mathlib.Core.Bool.{true};
-ghost use mathlib.Core.List.{_∷_};
-ghost use lib.ListN.{length, getD};
+ghost use lib.ListN.{length};
 ghost use Rattle.strings.specs.Spans.{Span, decodeAt};
 ghost use Rattle.words.specs.Words.{codeOf, objectWords, geometryWords, surfaceWords, isAdded, isAddedName, isLod, isPermitted, looksSecondLevel, depth, valuesDepth};
-ghost use Rattle.words.specs.Tables.{wordsIn, inOrder, numberIn, isAt, guessed, tabled};
+ghost use Rattle.words.specs.Tables.{wordsIn, inOrder, numberIn, tabled};
 ghost use Rattle.json.specs.Machine.{isDigit};
 
 // An end as an offset.
@@ -32,41 +31,6 @@ fn code_in(text: &[u8], at: usize, end: usize, words: &[u8], ends: &[u16]) -> us
         k += 1;
     }
     0
-}
-
-// Where the word at i begins.
-fn begin_of(ends: &[u16], i: usize) -> usize
-    requires { ⌜ i < length (now ends) ⌝ }
-    ensures { λ r. ⌜ r ≡ getD (0 ∷ now (ends .entry)) i 0 ⌝ }
-{
-    if i == 0 {
-        return 0;
-    }
-    wide(ends[i - 1])
-}
-
-// Is the string the word at i, counted from 0?
-fn is_at(text: &[u8], at: usize, end: usize, words: &[u8], ends: &[u16], i: usize) -> bool
-    requires { ⌜ (Span (now text) at end) × (inOrder 0 (now ends) (length (now words)) ≡ true) ⌝ }
-    ensures { λ r. ⌜ r ≡ isAt (wordsIn (now (words .entry)) 0 (now (ends .entry))) i (decodeAt (now (text .entry)) at end) ⌝ }
-{
-    if i >= ends.len() {
-        return false;
-    }
-    let from = begin_of(ends, i);
-    let to = wide(ends[i]);
-    strings::is_word(text, at, end, &words[from..to])
-}
-
-// The number of the word that a string is, where it is looked for at i first.
-fn guess_in(text: &[u8], at: usize, end: usize, words: &[u8], ends: &[u16], i: usize) -> usize
-    requires { ⌜ (Span (now text) at end) × (inOrder 0 (now ends) (length (now words)) ≡ true) ⌝ }
-    ensures { λ r. ⌜ r ≡ guessed (wordsIn (now (words .entry)) 0 (now (ends .entry))) i (decodeAt (now (text .entry)) at end) ⌝ }
-{
-    if is_at(text, at, end, words, ends, i) {
-        return i + 1;
-    }
-    code_in(text, at, end, words, ends)
 }
 
 // A byte as a number.
@@ -127,8 +91,117 @@ fn object_guess(key: usize) -> usize {
     }
 }
 
-// The code of an object type, 0 if the string is none.
-pub fn object_code(text: &[u8], at: usize, end: usize) -> usize
+// Is the string the object type at i, counted from 0, one of the first five?
+fn is_object_0_to_4(text: &[u8], at: usize, end: usize, i: usize) -> bool
+    requires { ⌜ Span (now text) at end ⌝ }
+    ensures { λ r. ⌜ (r ≡ true → codeOf objectWords (decodeAt (now (text .entry)) at end) ≡ i + 1) ⌝ }
+{
+    match i {
+        0 => strings::is_word(text, at, end, b"Bridge"),
+        1 => strings::is_word(text, at, end, b"Building"),
+        2 => strings::is_word(text, at, end, b"CityFurniture"),
+        3 => strings::is_word(text, at, end, b"CityObjectGroup"),
+        4 => strings::is_word(text, at, end, b"GenericCityObject"),
+        _ => false,
+    }
+}
+
+// The same for the next six.
+fn is_object_5_to_10(text: &[u8], at: usize, end: usize, i: usize) -> bool
+    requires { ⌜ Span (now text) at end ⌝ }
+    ensures { λ r. ⌜ (r ≡ true → codeOf objectWords (decodeAt (now (text .entry)) at end) ≡ i + 1) ⌝ }
+{
+    match i {
+        5 => strings::is_word(text, at, end, b"LandUse"),
+        6 => strings::is_word(text, at, end, b"OtherConstruction"),
+        7 => strings::is_word(text, at, end, b"PlantCover"),
+        8 => strings::is_word(text, at, end, b"Railway"),
+        9 => strings::is_word(text, at, end, b"Road"),
+        10 => strings::is_word(text, at, end, b"SolitaryVegetationObject"),
+        _ => false,
+    }
+}
+
+// The same for the other five of the first level.
+fn is_object_11_to_15(text: &[u8], at: usize, end: usize, i: usize) -> bool
+    requires { ⌜ Span (now text) at end ⌝ }
+    ensures { λ r. ⌜ (r ≡ true → codeOf objectWords (decodeAt (now (text .entry)) at end) ≡ i + 1) ⌝ }
+{
+    match i {
+        11 => strings::is_word(text, at, end, b"TINRelief"),
+        12 => strings::is_word(text, at, end, b"TransportSquare"),
+        13 => strings::is_word(text, at, end, b"Tunnel"),
+        14 => strings::is_word(text, at, end, b"WaterBody"),
+        15 => strings::is_word(text, at, end, b"Waterway"),
+        _ => false,
+    }
+}
+
+// The same for the types of the second level that are of a bridge.
+fn is_of_bridge(text: &[u8], at: usize, end: usize, i: usize) -> bool
+    requires { ⌜ Span (now text) at end ⌝ }
+    ensures { λ r. ⌜ (r ≡ true → codeOf objectWords (decodeAt (now (text .entry)) at end) ≡ i + 1) ⌝ }
+{
+    match i {
+        16 => strings::is_word(text, at, end, b"BridgePart"),
+        17 => strings::is_word(text, at, end, b"BridgeInstallation"),
+        18 => strings::is_word(text, at, end, b"BridgeConstructiveElement"),
+        19 => strings::is_word(text, at, end, b"BridgeRoom"),
+        20 => strings::is_word(text, at, end, b"BridgeFurniture"),
+        _ => false,
+    }
+}
+
+// The same for those that are of a building.
+fn is_of_building(text: &[u8], at: usize, end: usize, i: usize) -> bool
+    requires { ⌜ Span (now text) at end ⌝ }
+    ensures { λ r. ⌜ (r ≡ true → codeOf objectWords (decodeAt (now (text .entry)) at end) ≡ i + 1) ⌝ }
+{
+    match i {
+        21 => strings::is_word(text, at, end, b"BuildingPart"),
+        22 => strings::is_word(text, at, end, b"BuildingInstallation"),
+        23 => strings::is_word(text, at, end, b"BuildingConstructiveElement"),
+        24 => strings::is_word(text, at, end, b"BuildingFurniture"),
+        25 => strings::is_word(text, at, end, b"BuildingStorey"),
+        26 => strings::is_word(text, at, end, b"BuildingRoom"),
+        27 => strings::is_word(text, at, end, b"BuildingUnit"),
+        _ => false,
+    }
+}
+
+// The same for those that are of a tunnel.
+fn is_of_tunnel(text: &[u8], at: usize, end: usize, i: usize) -> bool
+    requires { ⌜ Span (now text) at end ⌝ }
+    ensures { λ r. ⌜ (r ≡ true → codeOf objectWords (decodeAt (now (text .entry)) at end) ≡ i + 1) ⌝ }
+{
+    match i {
+        28 => strings::is_word(text, at, end, b"TunnelPart"),
+        29 => strings::is_word(text, at, end, b"TunnelInstallation"),
+        30 => strings::is_word(text, at, end, b"TunnelConstructiveElement"),
+        31 => strings::is_word(text, at, end, b"TunnelHollowSpace"),
+        32 => strings::is_word(text, at, end, b"TunnelFurniture"),
+        _ => false,
+    }
+}
+
+// Is the string the object type at i, counted from 0?
+fn is_object_at(text: &[u8], at: usize, end: usize, i: usize) -> bool
+    requires { ⌜ Span (now text) at end ⌝ }
+    ensures { λ r. ⌜ (r ≡ true → codeOf objectWords (decodeAt (now (text .entry)) at end) ≡ i + 1) ⌝ }
+{
+    match i {
+        0..=4 => is_object_0_to_4(text, at, end, i),
+        5..=10 => is_object_5_to_10(text, at, end, i),
+        11..=15 => is_object_11_to_15(text, at, end, i),
+        16..=20 => is_of_bridge(text, at, end, i),
+        21..=27 => is_of_building(text, at, end, i),
+        28..=32 => is_of_tunnel(text, at, end, i),
+        _ => false,
+    }
+}
+
+// The code of an object type by the table of all of them.
+fn object_code_in(text: &[u8], at: usize, end: usize) -> usize
     requires { ⌜ Span (now text) at end ⌝ }
     ensures { λ r. ⌜ r ≡ codeOf objectWords (decodeAt (now (text .entry)) at end) ⌝ }
 {
@@ -167,14 +240,25 @@ pub fn object_code(text: &[u8], at: usize, end: usize) -> usize
         437,
         452,
     ];
-    guess_in(
+    code_in(
         text,
         at,
         end,
         b"BridgeBuildingCityFurnitureCityObjectGroupGenericCityObjectLandUseOtherConstructionPlantCoverRailwayRoadSolitaryVegetationObjectTINReliefTransportSquareTunnelWaterBodyWaterwayBridgePartBridgeInstallationBridgeConstructiveElementBridgeRoomBridgeFurnitureBuildingPartBuildingInstallationBuildingConstructiveElementBuildingFurnitureBuildingStoreyBuildingRoomBuildingUnitTunnelPartTunnelInstallationTunnelConstructiveElementTunnelHollowSpaceTunnelFurniture",
         &ends,
-        object_guess(key(text, at, end)),
     )
+}
+
+// The code of an object type, 0 if the string is none.
+pub fn object_code(text: &[u8], at: usize, end: usize) -> usize
+    requires { ⌜ Span (now text) at end ⌝ }
+    ensures { λ r. ⌜ r ≡ codeOf objectWords (decodeAt (now (text .entry)) at end) ⌝ }
+{
+    let i = object_guess(key(text, at, end));
+    if is_object_at(text, at, end, i) {
+        return i + 1;
+    }
+    object_code_in(text, at, end)
 }
 
 // May the string be a type of the second level? Those have at least ten bytes and begin with B or T.
@@ -207,20 +291,48 @@ fn geometry_guess(key: usize) -> usize {
     }
 }
 
-// The code of a geometry type, 0 if the string is none.
-pub fn geometry_code(text: &[u8], at: usize, end: usize) -> usize
+// Is the string the geometry type at i, counted from 0?
+fn is_geometry_at(text: &[u8], at: usize, end: usize, i: usize) -> bool
+    requires { ⌜ Span (now text) at end ⌝ }
+    ensures { λ r. ⌜ (r ≡ true → codeOf geometryWords (decodeAt (now (text .entry)) at end) ≡ i + 1) ⌝ }
+{
+    match i {
+        0 => strings::is_word(text, at, end, b"MultiPoint"),
+        1 => strings::is_word(text, at, end, b"MultiLineString"),
+        2 => strings::is_word(text, at, end, b"MultiSurface"),
+        3 => strings::is_word(text, at, end, b"CompositeSurface"),
+        4 => strings::is_word(text, at, end, b"Solid"),
+        5 => strings::is_word(text, at, end, b"MultiSolid"),
+        6 => strings::is_word(text, at, end, b"CompositeSolid"),
+        _ => false,
+    }
+}
+
+// The code of a geometry type by the table of all of them.
+fn geometry_code_in(text: &[u8], at: usize, end: usize) -> usize
     requires { ⌜ Span (now text) at end ⌝ }
     ensures { λ r. ⌜ r ≡ codeOf geometryWords (decodeAt (now (text .entry)) at end) ⌝ }
 {
     let ends: [u16; 7] = [10, 25, 37, 53, 58, 68, 82];
-    guess_in(
+    code_in(
         text,
         at,
         end,
         b"MultiPointMultiLineStringMultiSurfaceCompositeSurfaceSolidMultiSolidCompositeSolid",
         &ends,
-        geometry_guess(key(text, at, end)),
     )
+}
+
+// The code of a geometry type, 0 if the string is none.
+pub fn geometry_code(text: &[u8], at: usize, end: usize) -> usize
+    requires { ⌜ Span (now text) at end ⌝ }
+    ensures { λ r. ⌜ r ≡ codeOf geometryWords (decodeAt (now (text .entry)) at end) ⌝ }
+{
+    let i = geometry_guess(key(text, at, end));
+    if is_geometry_at(text, at, end, i) {
+        return i + 1;
+    }
+    geometry_code_in(text, at, end)
 }
 
 // A guess at the place of a surface type, counted from 0, from its key: right for every listed word that is written without escapes.
@@ -248,8 +360,69 @@ fn surface_guess(key: usize) -> usize {
     }
 }
 
-// The code of a surface type, 0 if the string is none of the listed ones.
-pub fn surface_code(text: &[u8], at: usize, end: usize) -> usize
+// Is the string the surface type at i, counted from 0, one of the first six?
+fn is_surface_0_to_5(text: &[u8], at: usize, end: usize, i: usize) -> bool
+    requires { ⌜ Span (now text) at end ⌝ }
+    ensures { λ r. ⌜ (r ≡ true → codeOf surfaceWords (decodeAt (now (text .entry)) at end) ≡ i + 1) ⌝ }
+{
+    match i {
+        0 => strings::is_word(text, at, end, b"RoofSurface"),
+        1 => strings::is_word(text, at, end, b"GroundSurface"),
+        2 => strings::is_word(text, at, end, b"WallSurface"),
+        3 => strings::is_word(text, at, end, b"ClosureSurface"),
+        4 => strings::is_word(text, at, end, b"OuterCeilingSurface"),
+        5 => strings::is_word(text, at, end, b"OuterFloorSurface"),
+        _ => false,
+    }
+}
+
+// The same for the next six.
+fn is_surface_6_to_11(text: &[u8], at: usize, end: usize, i: usize) -> bool
+    requires { ⌜ Span (now text) at end ⌝ }
+    ensures { λ r. ⌜ (r ≡ true → codeOf surfaceWords (decodeAt (now (text .entry)) at end) ≡ i + 1) ⌝ }
+{
+    match i {
+        6 => strings::is_word(text, at, end, b"Window"),
+        7 => strings::is_word(text, at, end, b"Door"),
+        8 => strings::is_word(text, at, end, b"InteriorWallSurface"),
+        9 => strings::is_word(text, at, end, b"CeilingSurface"),
+        10 => strings::is_word(text, at, end, b"FloorSurface"),
+        11 => strings::is_word(text, at, end, b"WaterSurface"),
+        _ => false,
+    }
+}
+
+// The same for the last six.
+fn is_surface_12_to_17(text: &[u8], at: usize, end: usize, i: usize) -> bool
+    requires { ⌜ Span (now text) at end ⌝ }
+    ensures { λ r. ⌜ (r ≡ true → codeOf surfaceWords (decodeAt (now (text .entry)) at end) ≡ i + 1) ⌝ }
+{
+    match i {
+        12 => strings::is_word(text, at, end, b"WaterGroundSurface"),
+        13 => strings::is_word(text, at, end, b"WaterClosureSurface"),
+        14 => strings::is_word(text, at, end, b"TrafficArea"),
+        15 => strings::is_word(text, at, end, b"AuxiliaryTrafficArea"),
+        16 => strings::is_word(text, at, end, b"TransportationMarking"),
+        17 => strings::is_word(text, at, end, b"TransportationHole"),
+        _ => false,
+    }
+}
+
+// Is the string the surface type at i, counted from 0?
+fn is_surface_at(text: &[u8], at: usize, end: usize, i: usize) -> bool
+    requires { ⌜ Span (now text) at end ⌝ }
+    ensures { λ r. ⌜ (r ≡ true → codeOf surfaceWords (decodeAt (now (text .entry)) at end) ≡ i + 1) ⌝ }
+{
+    match i {
+        0..=5 => is_surface_0_to_5(text, at, end, i),
+        6..=11 => is_surface_6_to_11(text, at, end, i),
+        12..=17 => is_surface_12_to_17(text, at, end, i),
+        _ => false,
+    }
+}
+
+// The code of a surface type by the table of all of them.
+fn surface_code_in(text: &[u8], at: usize, end: usize) -> usize
     requires { ⌜ Span (now text) at end ⌝ }
     ensures { λ r. ⌜ r ≡ codeOf surfaceWords (decodeAt (now (text .entry)) at end) ⌝ }
 {
@@ -273,14 +446,25 @@ pub fn surface_code(text: &[u8], at: usize, end: usize) -> usize
         241,
         259,
     ];
-    guess_in(
+    code_in(
         text,
         at,
         end,
         b"RoofSurfaceGroundSurfaceWallSurfaceClosureSurfaceOuterCeilingSurfaceOuterFloorSurfaceWindowDoorInteriorWallSurfaceCeilingSurfaceFloorSurfaceWaterSurfaceWaterGroundSurfaceWaterClosureSurfaceTrafficAreaAuxiliaryTrafficAreaTransportationMarkingTransportationHole",
         &ends,
-        surface_guess(key(text, at, end)),
     )
+}
+
+// The code of a surface type, 0 if the string is none of the listed ones.
+pub fn surface_code(text: &[u8], at: usize, end: usize) -> usize
+    requires { ⌜ Span (now text) at end ⌝ }
+    ensures { λ r. ⌜ r ≡ codeOf surfaceWords (decodeAt (now (text .entry)) at end) ⌝ }
+{
+    let i = surface_guess(key(text, at, end));
+    if is_surface_at(text, at, end, i) {
+        return i + 1;
+    }
+    surface_code_in(text, at, end)
 }
 
 // Does the string begin with a plus sign?

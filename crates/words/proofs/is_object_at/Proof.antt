@@ -1,0 +1,24 @@
+-- `words::is_object_at` meets its contract. Assumes nothing.
+use mathlib.Core.Path.{refl}
+use Rattle.utf8.specs.Laws.{never}
+use Rattle.words.proofs.Rules.{words}
+use Rattle.words.proofs.is_object_at.Statement.{statement}
+use Rattle.words.proofs.is_object_at.Tie as tie
+
+pub is-object-at-spec : {M : Type 1} → statement M
+is-object-at-spec =
+    tie.close
+    (tie.spec
+    (λ c κs. search words)
+    (λ c κs. search words)
+    (λ c κs. search words)
+    (λ c κs. search words)
+    (λ c κs. search words)
+    (λ c κs. search words)
+    (λ c. search words)
+    (λ c. search words)
+    (λ c. search words)
+    (λ c. search words)
+    (λ c. search words)
+    (λ c. search words)
+    (λ c e. absurd (never e refl)))

@@ -1,0 +1,18 @@
+-- `words::is_surface_at` meets its contract. Assumes nothing.
+use mathlib.Core.Path.{refl}
+use Rattle.utf8.specs.Laws.{never}
+use Rattle.words.proofs.Rules.{words}
+use Rattle.words.proofs.is_surface_at.Statement.{statement}
+use Rattle.words.proofs.is_surface_at.Tie as tie
+
+pub is-surface-at-spec : {M : Type 1} → statement M
+is-surface-at-spec =
+    tie.close
+    (tie.spec
+    (λ c κs. search words)
+    (λ c κs. search words)
+    (λ c κs. search words)
+    (λ c. search words)
+    (λ c. search words)
+    (λ c. search words)
+    (λ c e. absurd (never e refl)))
