@@ -206,6 +206,9 @@ module _ {text : List ℕ} {at i : ℕ} (h : Reads text charsOf (to charsOf) at 
   unfolding charsOf to
   string-plain l n m b = joins charsOf charsOf (to charsOf) h refl (passes-end charsOf (to charsOf) l (λ s ks. chars-more 32 text i _ n m b _ _ ks))
 
+  pub string-letter : i < length text → 92 < getD text i 0 → Reads text charsOf (to charsOf) at (End (i + 1))
+  string-letter l b = string-plain l (λ e. omega arith) (λ e. omega arith) (omega arith)
+
   module _ {r : Scan} (p : Reads text escOf (to charsOf) (i + 1) r) (l : i < length text) (b : getD text i 0 ≡ 92) where
     escaped : Reads text charsOf (to charsOf) i r
     unfolding charsOf escOf

@@ -265,6 +265,10 @@ fn string(text: &[u8], at: usize) -> Scan
     let mut i = at;
     while i < text.len() {
         let b = text[i];
+        if b > b'\\' {
+            i += 1;
+            continue;
+        }
         if b == b'"' {
             return Scan::End(i + 1);
         }
