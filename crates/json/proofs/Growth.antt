@@ -72,6 +72,13 @@ module _ {x t₀ : List ℕ} {at levels n e : ℕ} (d : Digits x at e) (z : e �
       let a : Atomic x t₀ t at n e (n + 3) = record { leaf = d .leaf z; wrote = w; width = refl } in
       leaf-read (stays-none blanks x at (g .high)) g a
 
+-- a value that holds no other, where no blank stands before it
+pub item-atom : {x : List ℕ} (t₀ t : List ℕ) {at levels n : ℕ} (r : Walk) → Ready x t₀ at levels 32 n → Atom x t₀ t at n r → Told x t₀ t want at levels 32 n r
+unfolding Told Atom
+item-atom {x} t₀ t {at} (walk.Read e j) g h = leaf-read (stays-none blanks x at (g .high)) g h
+item-atom t₀ t (walk.Bad q) g h = λ ks z. h ks
+item-atom t₀ t (walk.Deep q) g h = λ ks z. h ks
+
 -- a value, after the blanks before it
 module _ {x : List ℕ} {at i : ℕ} (k : Skips blanks isBlank x at i) where
   pub value-out : (t₀ t : List ℕ) (levels n : ℕ) → length x ≤ i → Told x t₀ t want at levels 32 n (walk.Bad i)

@@ -16,7 +16,7 @@ use Rattle.json.specs.Machine.{Frame, Mode, value, step, go, bad, isBlan
 use Rattle.json.specs.Machine.Role.{name}
 use Rattle.json.specs.Machine.Mode.{want, name1, colon, neg, nought, int, mant, chars}
 use Rattle.json.specs.Table.{size, Words, Quoted, isNumeric, Sub, null, bool, num, str}
-use Rattle.json.specs.Says.{from, Within, Reads, Skips, blanks, digital, numbered, charsOf, closedOf, ReadsString, WordAt, literalOf, ReadsWord, Placed, Fits, Wrote, Leaf, Scalar, Digits, Ready, Atom, Names}
+use Rattle.json.specs.Says.{from, Within, Reads, Skips, blanks, digital, numbered, charsOf, closedOf, ReadsString, WordAt, literalOf, ReadsWord, Placed, Fits, Wrote, Quote, Leaf, Scalar, Digits, Ready, Atom, Names}
 use Rattle.json.specs.declared.Scan.{Scan}
 use Rattle.json.specs.declared.Scan.the-variants.{End, Bad}
 use Rattle.json.specs.declared.Walk.the-variants as walk
@@ -165,6 +165,20 @@ module _ (x : List ℕ) (at : ℕ) (r : Scan) (s : Scalar x at r) where
   pub atom-bad : (t₀ t : List ℕ) (n q : ℕ) → r ≡ Bad q → Atom x t₀ t at n (walk.Bad q)
   unfolding Atom Scalar
   atom-bad t₀ t n q e = rw e at s
+
+-- a string as a value, and its node
+module _ {x : List ℕ} {at : ℕ} {r : Scan} (b : Quote x at) (s : ReadsString x (at + 1) r) where
+  text-scalar : Scalar x at r
+  text-scalar = scalar-string x at (b .there) (b .byte) s
+
+  pub text-fits : {t : List ℕ} {n e : ℕ} → r ≡ End e → Ready x t at 0 32 n → Fits t n at e (n + 3)
+  text-fits q k = atom-fits x at r text-scalar q k
+
+  pub text-read : {t₀ t : List ℕ} {n e : ℕ} → r ≡ End e → Wrote t₀ t n at e (n + 3) → Atom x t₀ t at n (walk.Read e (n + 3))
+  text-read q w = atom-read x at r text-scalar q w
+
+  pub text-bad : (t₀ t : List ℕ) (n q : ℕ) → r ≡ Bad q → Atom x t₀ t at n (walk.Bad q)
+  text-bad t₀ t n q e = atom-bad x at r text-scalar t₀ t n q e
 
 -- a name, after the blanks before it
 pub string-high : {x : List ℕ} {at e : ℕ} {r : Scan} → ReadsString x at r → r ≡ End e → e ≤ length x

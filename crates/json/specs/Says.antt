@@ -165,6 +165,11 @@ pub record Plain (x : List ℕ) (at : ℕ) : Type 0 where
   pub no-array : getD x at 0 ≡ 91 → ⊥
   pub no-object : getD x at 0 ≡ 123 → ⊥
 
+-- the byte at the offset is a quote
+pub record Quote (x : List ℕ) (at : ℕ) : Type 0 where
+  pub there : at < length x
+  pub byte : getD x at 0 ≡ 34
+
 -- what stands from p to before e is a value that holds no other: three words are its table
 pub record Leaf (x : List ℕ) (p e : ℕ) : Type 0 where
   pub value : Json

@@ -4,7 +4,7 @@ ghost use mathlib.Core.Path.{_≡_};
 ghost use lib.ListN.{length};
 ghost use Rattle.json.specs.Machine.{isBlank, isDigit, isHex, isEscape};
 ghost use Rattle.json.specs.Machine.Mode.{want, first, name0, neg, nought, int, dot, mant, exp, sign};
-ghost use Rattle.json.specs.Says.{blanks, digital, Skips, Reads, to, numbered, charsOf, escOf, hexOf, ReadsString, ReadsWord, Fits, Wrote, Plain, Scalar, Digits, Atom, Ready, Opened, Told, Names, Member};
+ghost use Rattle.json.specs.Says.{blanks, digital, Skips, Reads, to, numbered, charsOf, escOf, hexOf, ReadsString, ReadsWord, Fits, Wrote, Plain, Quote, Scalar, Digits, Atom, Ready, Opened, Told, Names, Member};
 ghost use Rattle.json.specs.Parse.{Tells};
 
 // What reading a text gives: how many words of the table are its tree's; the offset of a byte that no JSON text has there, or of
@@ -361,6 +361,21 @@ fn atom(text: &[u8], at: usize, table: &mut [u32], n: usize) -> Walk
     }
 }
 
+// A string as a value, whose quote stands at `at`, and its node at n.
+fn text_node(text: &[u8], at: usize, table: &mut [u32], n: usize) -> Walk
+    requires { ⌜ (Quote (now text) at) × (Ready (now text) (now table) at 0 32 n) ⌝ }
+    ensures { λ r. ⌜ Atom (now (text .entry)) (now (table .entry)) (now (table .exit)) at n r ⌝ }
+{
+    let r = string(text, at + 1);
+    match r {
+        Scan::Bad(q) => Walk::Bad(q),
+        Scan::End(e) => {
+            put_node(table, n, at, e, n + 3);
+            Walk::Read(e, n + 3)
+        }
+    }
+}
+
 // The name of a member with its colon, and its node at n.
 fn member_name(text: &[u8], at: usize, table: &mut [u32], n: usize) -> Scan
     requires { ⌜ Ready (now text) (now table) at 0 32 n ⌝ }
@@ -415,6 +430,19 @@ fn value(text: &[u8], at: usize, levels: usize, table: &mut [u32], n: usize) -> 
     atom(text, i, table, n)
 }
 
+// A value, as `value` reads it: a string is looked for first.
+fn item(text: &[u8], at: usize, levels: usize, table: &mut [u32], n: usize) -> Walk
+    requires { ⌜ Ready (now text) (now table) at levels 32 n ⌝ }
+    ensures { λ r. ⌜ Told (now (text .entry)) (now (table .entry)) (now (table .exit)) want at levels 32 n r ⌝ }
+{
+    if at < text.len() {
+        if text[at] == b'"' {
+            return text_node(text, at, table, n);
+        }
+    }
+    value(text, at, levels, table, n)
+}
+
 // An element of an array, as `value` reads it: most are integers, which are looked for first.
 fn element(text: &[u8], at: usize, levels: usize, table: &mut [u32], n: usize) -> Walk
     requires { ⌜ Ready (now text) (now table) at levels 32 n ⌝ }
@@ -425,7 +453,7 @@ fn element(text: &[u8], at: usize, levels: usize, table: &mut [u32], n: usize) -
         put_node(table, n, at, e, n + 3);
         return Walk::Read(e, n + 3);
     }
-    value(text, at, levels, table, n)
+    item(text, at, levels, table, n)
 }
 
 // An array, whose bracket stands at `at`: its elements' words from n + 3 on, and its node at n when it closes.
@@ -522,7 +550,7 @@ fn member(text: &[u8], at: usize, levels: usize, table: &mut [u32], n: usize) ->
     let s = member_name(text, at, table, n);
     match s {
         Scan::Bad(q) => Walk::Bad(q),
-        Scan::End(v) => value(text, v, levels, table, n + 3),
+        Scan::End(v) => item(text, v, levels, table, n + 3),
     }
 }
 

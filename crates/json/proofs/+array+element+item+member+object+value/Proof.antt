@@ -1,4 +1,4 @@
--- The proof of the cycle of calls {array, element, member, object, value}. The measure goes by the levels left: three times as many for a value, one more for an element or a member, and two more for a container.
+-- The proof of the cycle of calls {array, element, item, member, object, value}. The measure goes by the levels left: four times as many for a value, one more for an item, two more for an element or a member, and three more for a container.
 -- A container's loop knows that from its opening on the machine comes to where the next value, or the next name, starts, and that the words of those before stand in the table.
 -- Assumes nothing.
 use Prim.Native.Nat.{ℕ, _+_, _-_, _*_, _<_}
@@ -10,41 +10,48 @@ use Rattle.json.proofs.Growth.{Elements, Fielded, element-high, array-f
 use Rattle.json.proofs.Rules.{walks}
 use Rattle.json.proofs.array.Reads as array
 use Rattle.json.proofs.array.Kinds as array-kinds
-use Rattle.json.proofs.+array+element+member+object+value.Lts-array as array-lts
+use Rattle.json.proofs.+array+element+item+member+object+value.Lts-array as array-lts
 use Rattle.json.proofs.element.Reads as element
 use Rattle.json.proofs.element.Kinds as element-kinds
-use Rattle.json.proofs.+array+element+member+object+value.Lts-element as element-lts
+use Rattle.json.proofs.+array+element+item+member+object+value.Lts-element as element-lts
+use Rattle.json.proofs.item.Reads as item
+use Rattle.json.proofs.item.Kinds as item-kinds
+use Rattle.json.proofs.+array+element+item+member+object+value.Lts-item as item-lts
 use Rattle.json.proofs.member.Reads as member
 use Rattle.json.proofs.member.Kinds as member-kinds
-use Rattle.json.proofs.+array+element+member+object+value.Lts-member as member-lts
+use Rattle.json.proofs.+array+element+item+member+object+value.Lts-member as member-lts
 use Rattle.json.proofs.object.Reads as object
 use Rattle.json.proofs.object.Kinds as object-kinds
-use Rattle.json.proofs.+array+element+member+object+value.Lts-object as object-lts
+use Rattle.json.proofs.+array+element+item+member+object+value.Lts-object as object-lts
 use Rattle.json.proofs.value.Reads as value
 use Rattle.json.proofs.value.Kinds as value-kinds
-use Rattle.json.proofs.+array+element+member+object+value.Lts-value as value-lts
+use Rattle.json.proofs.+array+element+item+member+object+value.Lts-value as value-lts
 use Rattle.json.proofs.atom.Reads as atom-reads
 use Rattle.json.proofs.digits_end.Reads as digits-end-reads
 use Rattle.json.proofs.member_name.Reads as member-name-reads
 use Rattle.json.proofs.put_node.Reads as put-node-reads
 use Rattle.json.proofs.skip_blanks.Reads as skip-blanks-reads
-use Rattle.json.proofs.+array+element+member+object+value.{statement}
-use Rattle.json.proofs.+array+element+member+object+value.Tie.{close}
+use Rattle.json.proofs.text_node.Reads as text-node-reads
+use Rattle.json.proofs.+array+element+item+member+object+value.{statement}
+use Rattle.json.proofs.+array+element+item+member+object+value.Tie.{close}
 
 abbrev μ-array : Measures 2 array-kinds.ps ℕ
-μ-array κs a = 3 * a .1 .1 .0 + 2
+μ-array κs a = 4 * a .1 .1 .0 + 3
 
 abbrev μ-element : Measures 2 element-kinds.ps ℕ
-μ-element κs a = 3 * a .1 .1 .0 + 1
+μ-element κs a = 4 * a .1 .1 .0 + 2
+
+abbrev μ-item : Measures 2 item-kinds.ps ℕ
+μ-item κs a = 4 * a .1 .1 .0 + 1
 
 abbrev μ-member : Measures 2 member-kinds.ps ℕ
-μ-member κs a = 3 * a .1 .1 .0 + 1
+μ-member κs a = 4 * a .1 .1 .0 + 2
 
 abbrev μ-object : Measures 2 object-kinds.ps ℕ
-μ-object κs a = 3 * a .1 .1 .0 + 2
+μ-object κs a = 4 * a .1 .1 .0 + 3
 
 abbrev μ-value : Measures 2 value-kinds.ps ℕ
-μ-value κs a = 3 * a .1 .1 .0
+μ-value κs a = 4 * a .1 .1 .0
 
 abbrev array-at : ℕ → In 2 array-kinds.ps
 array-at t = and 2 array-kinds.ps (is 2 array-kinds.ps μ-array t) array.Pre
@@ -57,6 +64,12 @@ element-at t = and 2 element-kinds.ps (is 2 element-kinds.ps μ-element t) eleme
 
 abbrev element-below : ℕ → In 2 element-kinds.ps
 element-below t = and 2 element-kinds.ps (falls 2 element-kinds.ps _<_ μ-element t) element.Pre
+
+abbrev item-at : ℕ → In 2 item-kinds.ps
+item-at t = and 2 item-kinds.ps (is 2 item-kinds.ps μ-item t) item.Pre
+
+abbrev item-below : ℕ → In 2 item-kinds.ps
+item-below t = and 2 item-kinds.ps (falls 2 item-kinds.ps _<_ μ-item t) item.Pre
 
 abbrev member-at : ℕ → In 2 member-kinds.ps
 member-at t = and 2 member-kinds.ps (is 2 member-kinds.ps μ-member t) member.Pre
@@ -81,13 +94,16 @@ abbrev array-calls : ℕ → array-lts.Claims
 array-calls t = (skip-blanks-reads.Asked, skip-blanks-reads.Learnt, put-node-reads.Asked, put-node-reads.Learnt, element-below t, element.Post)
 
 abbrev element-calls : ℕ → element-lts.Claims
-element-calls t = (digits-end-reads.Asked, digits-end-reads.Learnt, put-node-reads.Asked, put-node-reads.Learnt, value-below t, value.Post)
+element-calls t = (digits-end-reads.Asked, digits-end-reads.Learnt, put-node-reads.Asked, put-node-reads.Learnt, item-below t, item.Post)
+
+abbrev item-calls : ℕ → item-lts.Claims
+item-calls t = (text-node-reads.Asked, text-node-reads.Learnt, value-below t, value.Post)
 
 abbrev object-calls : ℕ → object-lts.Claims
 object-calls t = (skip-blanks-reads.Asked, skip-blanks-reads.Learnt, put-node-reads.Asked, put-node-reads.Learnt, member-below t, member.Post)
 
 abbrev member-calls : ℕ → member-lts.Claims
-member-calls t = (member-name-reads.Asked, member-name-reads.Learnt, value-below t, value.Post)
+member-calls t = (member-name-reads.Asked, member-name-reads.Learnt, item-below t, item.Post)
 
 abbrev value-calls : ℕ → value-lts.Claims
 value-calls t = (skip-blanks-reads.Asked, skip-blanks-reads.Learnt, array-below t, array.Post, object-below t, object.Post, atom-reads.Asked, atom-reads.Learnt)
@@ -228,14 +244,35 @@ module _ (t : ℕ) where
   element-returns : element-lts.Need-returns (element-calls t) (element-at t) element.Post
   element-returns c = search walks
 
-  element-value-requires : element-lts.Need-value-requires (element-calls t) (element-at t) element.Post
-  element-value-requires c κs = search walks
+  element-item-requires : element-lts.Need-item-requires (element-calls t) (element-at t) element.Post
+  element-item-requires c κs = search walks
 
   element-same-length-2 : element-lts.Need-same-length-2 (element-calls t) (element-at t) element.Post
   element-same-length-2 c = search walks
 
   element-returns-2 : element-lts.Need-returns-2 (element-calls t) (element-at t) element.Post
   element-returns-2 c = search walks
+
+  item-shared-slice-read-if2 : item-lts.Need-shared-slice-read-if2 (item-calls t) (item-at t) item.Post
+  item-shared-slice-read-if2 c = search walks
+
+  item-text-node-requires : item-lts.Need-text-node-requires (item-calls t) (item-at t) item.Post
+  item-text-node-requires c κs = search walks
+
+  item-same-length : item-lts.Need-same-length (item-calls t) (item-at t) item.Post
+  item-same-length c = search walks
+
+  item-returns : item-lts.Need-returns (item-calls t) (item-at t) item.Post
+  item-returns c = search walks
+
+  item-value-requires : item-lts.Need-value-requires (item-calls t) (item-at t) item.Post
+  item-value-requires c κs = search walks
+
+  item-same-length-2 : item-lts.Need-same-length-2 (item-calls t) (item-at t) item.Post
+  item-same-length-2 c = search walks
+
+  item-returns-2 : item-lts.Need-returns-2 (item-calls t) (item-at t) item.Post
+  item-returns-2 c = search walks
 
   member-member-name-requires : member-lts.Need-member-name-requires (member-calls t) (member-at t) member.Post
   member-member-name-requires c κs = search walks
@@ -246,11 +283,11 @@ module _ (t : ℕ) where
   member-enum-known-s-2 : member-lts.Need-enum-known-s-2 (member-calls t) (member-at t) member.Post
   member-enum-known-s-2 c = search walks
 
-  member-add-value : member-lts.Need-add-value (member-calls t) (member-at t) member.Post
-  member-add-value c = search walks
+  member-add-item : member-lts.Need-add-item (member-calls t) (member-at t) member.Post
+  member-add-item c = search walks
 
-  member-value-requires : member-lts.Need-value-requires (member-calls t) (member-at t) member.Post
-  member-value-requires c κs = search walks
+  member-item-requires : member-lts.Need-item-requires (member-calls t) (member-at t) member.Post
+  member-item-requires c κs = search walks
 
   member-same-length : member-lts.Need-same-length (member-calls t) (member-at t) member.Post
   member-same-length c = search walks
@@ -417,15 +454,17 @@ module _ (t : ℕ) where
   value-returns-6 : value-lts.Need-returns-6 (value-calls t) (value-at t) value.Post
   value-returns-6 c = search walks
 
-pub +array+element+member+object+value-spec : {M : Type 1} → statement M
-+array+element+member+object+value-spec =
-    close μ-array μ-element μ-member μ-object μ-value
+pub +array+element+item+member+object+value-spec : {M : Type 1} → statement M
++array+element+item+member+object+value-spec =
+    close μ-array μ-element μ-item μ-member μ-object μ-value
     (λ t. array-lts.spec (array-calls t) (array-at t) array.Post array-Inv array-μ
     (array-add-skip-blanks t) (array-skip-blanks-requires t) (array-returns t) (array-shared-slice-read-if2 t) (array-add-put-node t) (array-add-put-node-2 t) (array-put-node-requires t) (array-add-t22 t) (array-add-t23 t) (array-same-length t) (array-returns-2 t) (array-add-m t) (array-loop-holds t) (array-element-requires t) (array-enum-known-r t) (array-same-length-2 t) (array-returns-3 t) (array-enum-known-r-2 t) (array-same-length-3 t) (array-returns-4 t) (array-enum-known-r-3 t) (array-skip-blanks-requires-2 t) (array-same-length-4 t) (array-returns-5 t) (array-shared-slice-read-b t) (array-add-put-node-3 t) (array-put-node-requires-2 t) (array-add-t33 t) (array-same-length-5 t) (array-returns-6 t) (array-same-length-6 t) (array-returns-7 t) (array-add-i t) (array-loop-less t) (array-loop-again t))
     (λ t. element-lts.spec (element-calls t) (element-at t) element.Post
-    (element-digits-end-requires t) (element-add-put-node t) (element-put-node-requires t) (element-add-t11 t) (element-same-length t) (element-returns t) (element-value-requires t) (element-same-length-2 t) (element-returns-2 t))
+    (element-digits-end-requires t) (element-add-put-node t) (element-put-node-requires t) (element-add-t11 t) (element-same-length t) (element-returns t) (element-item-requires t) (element-same-length-2 t) (element-returns-2 t))
+    (λ t. item-lts.spec (item-calls t) (item-at t) item.Post
+    (item-shared-slice-read-if2 t) (item-text-node-requires t) (item-same-length t) (item-returns t) (item-value-requires t) (item-same-length-2 t) (item-returns-2 t))
     (λ t. member-lts.spec (member-calls t) (member-at t) member.Post
-    (member-member-name-requires t) (member-enum-known-s t) (member-enum-known-s-2 t) (member-add-value t) (member-value-requires t) (member-same-length t) (member-returns t) (member-same-length-2 t) (member-returns-2 t))
+    (member-member-name-requires t) (member-enum-known-s t) (member-enum-known-s-2 t) (member-add-item t) (member-item-requires t) (member-same-length t) (member-returns t) (member-same-length-2 t) (member-returns-2 t))
     (λ t. object-lts.spec (object-calls t) (object-at t) object.Post object-Inv object-μ
     (object-add-skip-blanks t) (object-skip-blanks-requires t) (object-returns t) (object-shared-slice-read-if2 t) (object-add-put-node t) (object-add-put-node-2 t) (object-put-node-requires t) (object-add-t22 t) (object-add-t23 t) (object-same-length t) (object-returns-2 t) (object-add-m t) (object-loop-holds t) (object-member-requires t) (object-enum-known-r t) (object-same-length-2 t) (object-returns-3 t) (object-enum-known-r-2 t) (object-same-length-3 t) (object-returns-4 t) (object-enum-known-r-3 t) (object-skip-blanks-requires-2 t) (object-same-length-4 t) (object-returns-5 t) (object-shared-slice-read-b t) (object-add-put-node-3 t) (object-put-node-requires-2 t) (object-add-t33 t) (object-same-length-5 t) (object-returns-6 t) (object-same-length-6 t) (object-returns-7 t) (object-add-i t) (object-loop-less t) (object-loop-again t))
     (λ t. value-lts.spec (value-calls t) (value-at t) value.Post
