@@ -1,4 +1,4 @@
--- Looking for a backslash, and comparing two strings as they stand. Assumes nothing.
+-- Looking for a backslash, and comparing a string as it stands with a word or another string. Assumes nothing.
 use Prim.Native.Nat.{ℕ, zero, suc, _+_, _-_, _≤_, _<_}
 use native.Mathlib.Omega.{arith}
 use native.Mathlib.Numerals.{add-one}
@@ -24,24 +24,24 @@ or-none : (a : Bool) → (a || false) ≡ a
 or-none true = refl
 or-none false = refl
 
--- sixteen bytes, one after the other: what was found, or what is still to come
+-- 64 bytes, one after the other: what was found, or what is still to come
 module _ (x : List ℕ) (at : ℕ) where
-  pub sixteen-begin : hasByte 92 (slice (at + 0) (at + 16) x) ≡ hasByte 92 (slice at (at + 16) x)
-  sixteen-begin = let z : at + 0 ≡ at = omega arith in rw z
+  pub block-begin : hasByte 92 (slice (at + 0) (at + 64) x) ≡ hasByte 92 (slice at (at + 64) x)
+  block-begin = let z : at + 0 ≡ at = omega arith in rw z
 
-  module _ (k : ℕ) (f all : Bool) (e : (f || hasByte 92 (slice (at + k) (at + 16) x)) ≡ all) where
-    pub sixteen-more : at + 16 ≤ length x → k < 16 → ((f || eqb (getD x (at + k) 0) 92) || hasByte 92 (slice (at + (k + 1)) (at + 16) x)) ≡ all
+  module _ (k : ℕ) (f all : Bool) (e : (f || hasByte 92 (slice (at + k) (at + 64) x)) ≡ all) where
+    pub block-more : at + 64 ≤ length x → k < 64 → ((f || eqb (getD x (at + k) 0) 92) || hasByte 92 (slice (at + (k + 1)) (at + 64) x)) ≡ all
     unfolding hasByte
-    sixteen-more h l =
+    block-more h l =
         let z : suc (at + k) ≡ at + (k + 1) = omega arith in
-        let q : slice (at + k) (at + 16) x ≡ getD x (at + k) 0 ∷ slice (at + (k + 1)) (at + 16) x = slice-cons (at + k) (at + 16) x 0 (omega arith) h ∙ ap (λ (n : ℕ). getD x (at + k) 0 ∷ slice n (at + 16) x) z in
+        let q : slice (at + k) (at + 64) x ≡ getD x (at + k) 0 ∷ slice (at + (k + 1)) (at + 64) x = slice-cons (at + k) (at + 64) x 0 (omega arith) h ∙ ap (λ (n : ℕ). getD x (at + k) 0 ∷ slice n (at + 64) x) z in
         or-assoc f (eqb (getD x (at + k) 0) 92) _ ∙ (ap (λ (l : List ℕ). f || hasByte 92 l) (sym q) ∙ e)
 
-    pub sixteen-done : k ≤ 16 → 16 ≤ k → f ≡ all
+    pub block-done : k ≤ 64 → 64 ≤ k → f ≡ all
     unfolding hasByte
-    sixteen-done l h =
-        let z : at + k ≡ at + 16 = omega arith in
-        sym (or-none f) ∙ (rw (z, slice-empty (at + 16) x) at e)
+    block-done l h =
+        let z : at + k ≡ at + 64 = omega arith in
+        sym (or-none f) ∙ (rw (z, slice-empty (at + 64) x) at e)
 
 drop-slice : (j n : ℕ) (l : List ℕ) → j ≤ n → drop j l ≡ slice j n l ++ drop n l
 drop-slice zero n l h = sym (take-append-drop n l)
@@ -66,18 +66,18 @@ module _ (x : List ℕ) (i : ℕ) (all : Bool) (e : all ≡ hasByte 92 (drop i x
   pub has-rest : (r : Bool) → r ≡ hasByte 92 (drop i x) → r ≡ all
   has-rest r q = q ∙ sym e
 
-  -- sixteen of them at a time
-  module _ (r : Bool) (q : r ≡ hasByte 92 (slice i (i + 16) x)) where
-    both : all ≡ (r || hasByte 92 (drop (i + 16) x))
-    both = rw (e, drop-slice i (i + 16) x (omega arith), has-append 92 (slice i (i + 16) x) (drop (i + 16) x), q)
+  -- 64 of them at a time
+  module _ (r : Bool) (q : r ≡ hasByte 92 (slice i (i + 64) x)) where
+    both : all ≡ (r || hasByte 92 (drop (i + 64) x))
+    both = rw (e, drop-slice i (i + 64) x (omega arith), has-append 92 (slice i (i + 64) x) (drop (i + 64) x), q)
 
     pub has-here : r ≡ true → true ≡ all
     has-here t = rw (both, t)
 
-    pub has-more : r ≡ false → all ≡ hasByte 92 (drop (i + 16) x)
+    pub has-more : r ≡ false → all ≡ hasByte 92 (drop (i + 64) x)
     has-more t = rw t at both
 
-pub has-room : (x : List ℕ) (i : ℕ) → i ≤ length x → 16 ≤ length x - i → i + 16 ≤ length x
+pub has-room : (x : List ℕ) (i : ℕ) → i ≤ length x → 64 ≤ length x - i → i + 64 ≤ length x
 has-room x i h l = omega arith
 
 -- a word and as many bytes of the text, byte by byte

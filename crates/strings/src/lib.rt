@@ -632,14 +632,14 @@ pub fn first_unpaired(text: &[u8], at: usize, end: usize) -> Found
     Found::Nothing
 }
 
-// Is one of the sixteen bytes from `at` on a backslash? The compiler looks at them all at once.
-fn escape_in_16(text: &[u8], at: usize) -> bool
-    requires { ⌜ at + 16 ≤ length (now text) ⌝ }
-    ensures { λ r. ⌜ r ≡ hasByte 92 (slice at (at + 16) (now (text .entry))) ⌝ }
+// Is one of the 64 bytes from `at` on a backslash? The compiler looks at many of them at once.
+fn escape_in_64(text: &[u8], at: usize) -> bool
+    requires { ⌜ at + 64 ≤ length (now text) ⌝ }
+    ensures { λ r. ⌜ r ≡ hasByte 92 (slice at (at + 64) (now (text .entry))) ⌝ }
 {
     let mut found = false;
     let mut k: usize = 0;
-    while k < 16 {
+    while k < 64 {
         found = found | (text[at + k] == b'\\');
         k += 1;
     }
@@ -665,11 +665,11 @@ pub fn has_escape(text: &[u8]) -> bool
     ensures { λ r. ⌜ r ≡ hasByte 92 (now (text .entry)) ⌝ }
 {
     let mut i = 0;
-    while text.len() - i >= 16 {
-        if escape_in_16(text, i) {
+    while text.len() - i >= 64 {
+        if escape_in_64(text, i) {
             return true;
         }
-        i += 16;
+        i += 64;
     }
     escape_from(text, i)
 }
