@@ -1,5 +1,5 @@
 -- What the bytes at a place of the text say of `size` and `wholeLength` there. Assumes nothing.
-use Prim.Native.Nat.{ℕ, suc, _+_, _-_, _≤_, _<_}
+use Prim.Native.Nat.{ℕ, zero, suc, _+_, _-_, _≤_, _<_}
 use native.Mathlib.Omega.{arith}
 use native.Mathlib.Numerals.{add-one}
 use native.Mathlib.Nat.{add-zero, eq-zero-or-pos}
@@ -10,6 +10,7 @@ use mathlib.Core.Logic.{⊎-elim}
 use lib.ListN.{length, take, drop, getD, length-drop, drop-of-length-le}
 use lib.Seq.{drop-cons, drop-drop}
 use lib.Dec.{ltb}
+use borrow.Author.Count.{below-more}
 use borrow.Author.Tests.{ltb-true}
 use Rattle.utf8.specs.Utf8.{written, size, wholeFrom, wholeLength}
 use Rattle.utf8.specs.Says.{Under, Step}
@@ -95,26 +96,33 @@ module _ (text : List ℕ) where
           stop = λ z. whole-stop (drop at text) (sym e ∙ z);
         }
 
-    pub step-eight : (r : Bool) → 8 ≤ length text - at → (r ≡ true → wholeLength (drop at text) ≡ 8 + wholeLength (drop (at + 8) text)) → r ≡ true → Step text at 8
-    step-eight r l f e = record { fits = omega arith; on = f e; stop = λ z. absurd (omega arith) }
+    pub step-many : (r : Bool) → 64 ≤ length text - at → (r ≡ true → wholeLength (drop at text) ≡ 64 + wholeLength (drop (at + 64) text)) → r ≡ true → Step text at 64
+    step-many r l f e = record { fits = omega arith; on = f e; stop = λ z. absurd (omega arith) }
 
   -- one byte below 128
   pub ascii : (at j : ℕ) → j ≡ at + 1 → at < length text → getD text at 0 < 128 → wholeLength (drop at text) ≡ 1 + wholeLength (drop j text)
   ascii at j e h l = past at 1 (omega arith) (sym (one-found at h l)) ∙ ap (λ k. 1 + wholeLength (drop k text)) (sym e)
 
-  -- eight bytes below 128
-  pub ascii-eight : (at m : ℕ) → Under text at m → at + 8 ≤ length text → ltb m 128 ≡ true → wholeLength (drop at text) ≡ 8 + wholeLength (drop (at + 8) text)
-  ascii-eight at m h l e =
-      let k = ltb-true m 128 e in
-      let e₀ = ascii at (at + 1) refl (omega arith) (omega arith) in
-      let e₁ = ascii (at + 1) (at + 2) (omega arith) (omega arith) (omega arith) in
-      let e₂ = ascii (at + 2) (at + 3) (omega arith) (omega arith) (omega arith) in
-      let e₃ = ascii (at + 3) (at + 4) (omega arith) (omega arith) (omega arith) in
-      let e₄ = ascii (at + 4) (at + 5) (omega arith) (omega arith) (omega arith) in
-      let e₅ = ascii (at + 5) (at + 6) (omega arith) (omega arith) (omega arith) in
-      let e₆ = ascii (at + 6) (at + 7) (omega arith) (omega arith) (omega arith) in
-      let e₇ = ascii (at + 7) (at + 8) (omega arith) (omega arith) (omega arith) in
-      omega arith
+  -- n bytes below 128
+  ascii-each : (at n m : ℕ) → Under text at n m → at + n ≤ length text → m < 128 → wholeLength (drop at text) ≡ n + wholeLength (drop (at + n) text)
+  ascii-each at zero m h l e = rw (add-zero at) (omega arith)
+  ascii-each at (suc n) m h l e =
+      let u : Under text at n m = record { most = λ k i. h .most k (omega arith) } in
+      omega (arith, ascii-each at n m u (omega arith) e, ascii (at + n) (at + suc n) (omega arith) (omega arith) (omega (arith, h .most n (omega arith))))
+
+  module _ (at : ℕ) where
+    pub ascii-many : (m : ℕ) → Under text at 64 m → at + 64 ≤ length text → ltb m 128 ≡ true → wholeLength (drop at text) ≡ 64 + wholeLength (drop (at + 64) text)
+    ascii-many m h l e = ascii-each at 64 m h l (ltb-true m 128 e)
+
+    -- a byte that is at least each of those so far
+    pub gather-none : (m : ℕ) → Under text at 0 m
+    gather-none m = record { most = λ k i. absurd (omega arith) }
+
+    pub gather-more : (k m r : ℕ) → Under text at k m → m ≤ r → getD text (at + k) 0 ≤ r → Under text at (k + 1) r
+    gather-more k m r h p q = record { most = below-more (λ j. getD text (at + j) 0 ≤ r) k (λ j i. omega (arith, h .most j i)) q }
+
+    pub gather-all : (k m : ℕ) → Under text at k m → 64 ≤ k → Under text at 64 m
+    gather-all k m h l = record { most = λ j i. h .most j (omega arith) }
 
 -- the whole characters before this place are counted
 pub record Reached (text : List ℕ) (at : ℕ) : Type 0 where

@@ -1,5 +1,5 @@
 -- What the code's helper functions say of their results.
-use Prim.Native.Nat.{ℕ, _+_, _≤_}
+use Prim.Native.Nat.{ℕ, _+_, _≤_, _<_}
 use mathlib.Core.Path.{_≡_}
 use mathlib.Core.Bool.{Bool, _&&_}
 use mathlib.Core.List.{List}
@@ -11,16 +11,9 @@ use Rattle.utf8.specs.Utf8.{wholeLength}
 unfoldable pub isBetween : ℕ → ℕ → ℕ → Bool
 isBetween low high b = leb low b && leb b high
 
--- none of the eight bytes at this place is above m
-pub record Under (text : List ℕ) (at m : ℕ) : Type 0 where
-  pub b₀ : getD text at 0 ≤ m
-  pub b₁ : getD text (at + 1) 0 ≤ m
-  pub b₂ : getD text (at + 2) 0 ≤ m
-  pub b₃ : getD text (at + 3) 0 ≤ m
-  pub b₄ : getD text (at + 4) 0 ≤ m
-  pub b₅ : getD text (at + 5) 0 ≤ m
-  pub b₆ : getD text (at + 6) 0 ≤ m
-  pub b₇ : getD text (at + 7) 0 ≤ m
+-- none of the n bytes from this place on is above m
+pub record Under (text : List ℕ) (at n m : ℕ) : Type 0 where
+  pub most : (k : ℕ) → k < n → getD text (at + k) 0 ≤ m
 
 -- the n bytes at this place are whole characters, and 0 says that none stands there
 pub record Step (text : List ℕ) (at n : ℕ) : Type 0 where

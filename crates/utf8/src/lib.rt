@@ -114,34 +114,36 @@ fn joined(a: u8, b: u8) -> u8
     a | b
 }
 
-// A byte that is at least each of the next eight.
+// A byte that is at least each of the next 64: their bits together.
 fn gathered(text: &[u8], at: usize) -> u8
-    requires { ⌜ at + 8 ≤ length (now text) ⌝ }
-    ensures { λ r. ⌜ Under (now (text .entry)) at r ⌝ }
+    requires { ⌜ at + 64 ≤ length (now text) ⌝ }
+    ensures { λ r. ⌜ Under (now (text .entry)) at 64 r ⌝ }
 {
-    let a = joined(text[at], text[at + 1]);
-    let b = joined(text[at + 2], text[at + 3]);
-    let c = joined(text[at + 4], text[at + 5]);
-    let d = joined(text[at + 6], text[at + 7]);
-    joined(joined(a, b), joined(c, d))
+    let mut all: u8 = 0;
+    let mut k: usize = 0;
+    while k < 64 {
+        all = joined(all, text[at + k]);
+        k += 1;
+    }
+    all
 }
 
-// Are the next eight bytes below 80, and so a character each?
-fn eight(text: &[u8], at: usize) -> bool
-    requires { ⌜ at + 8 ≤ length (now text) ⌝ }
-    ensures { λ r. ⌜ (r ≡ true → wholeLength (drop at (now (text .entry))) ≡ 8 + wholeLength (drop (at + 8) (now (text .entry)))) ⌝ }
+// Are the next 64 bytes below 80, and so a character each?
+fn all_ascii(text: &[u8], at: usize) -> bool
+    requires { ⌜ at + 64 ≤ length (now text) ⌝ }
+    ensures { λ r. ⌜ (r ≡ true → wholeLength (drop at (now (text .entry))) ≡ 64 + wholeLength (drop (at + 64) (now (text .entry)))) ⌝ }
 {
     gathered(text, at) < 0x80
 }
 
-// How far the text goes on at `at` in one step: eight bytes below 80, or one character; 0 if none stands there.
+// How far the text goes on at `at` in one step: 64 bytes below 80, or one character; 0 if none stands there.
 fn step(text: &[u8], at: usize) -> usize
     requires { ⌜ at < length (now text) ⌝ }
     ensures { λ r. ⌜ Step (now (text .entry)) at r ⌝ }
 {
-    if text.len() - at >= 8 {
-        if eight(text, at) {
-            return 8;
+    if text.len() - at >= 64 {
+        if all_ascii(text, at) {
+            return 64;
         }
     }
     character(text, at)
