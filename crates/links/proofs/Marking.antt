@@ -170,24 +170,27 @@ module _ {x t offsets : List ℕ} {count row i : ℕ} {g₀ : List ℕ} where
       beside = beside-then (p .beside) (e .beside);
     }
 
-    pub marked : {found : Found} → found ≡ At i → n ≤ k → MarksGive x t offsets count row found g₀ g best acc
+    pub marked : n ≤ k → MarksGive x t offsets count row (At i) g₀ g best acc
     unfolding elementsIn absent seen least Finds
-    marked {found} q h = record {
+    marked h = record {
       beside = p .beside;
-      is = λ ms o r z f.
-          let (v, w, s) : Finds x t z (At i) = subst (Finds x t z) q f in
+      is = λ ms o r z (v, w, s).
           let e = walk-done (p .walk) h s .of ms o r in
           let a : acc ≡ least best (absent ms [] (elements v)) = e .faults in
           let c : e .earlier ≡ seen [] (elements v) = e .ids in
           rw w (a, rw (← c) (e .right));
     }
 
-  pub marked-other : (best : ℕ) {found : Found} {b : Bool} → found ≡ At i → Gives isArrayValue x t i b → not b ≡ true → MarksGive x t offsets count row found g₀ g₀ best best
+  pub marked-other : (best : ℕ) {b : Bool} → Gives isArrayValue x t i b → not b ≡ true → MarksGive x t offsets count row (At i) g₀ g₀ best best
   unfolding elementsIn absent seen least Finds
-  marked-other best {found} {b} q a h = record {
+  marked-other best {b} a h = record {
     beside = beside-same g₀ row;
-    is = λ ms o r z f. let (v, w, s) : Finds x t z (At i) = subst (Finds x t z) q f in rw (w, no-elements v (sym (a .is v s) ∙ not-true b h)) (refl, r);
+    is = λ ms o r z (v, w, s). rw (w, no-elements v (sym (a .is v s) ∙ not-true b h)) (refl, r);
   }
+
+-- what was found
+pub marked-at : {x t offsets : List ℕ} {count row i best r : ℕ} {g g′ : List ℕ} {found : Found} → found ≡ At i → MarksGive x t offsets count row (At i) g g′ best r → MarksGive x t offsets count row found g g′ best r
+marked-at q m = rw q m
 
 pub marked-nothing : {x t offsets : List ℕ} {count row best : ℕ} {g : List ℕ} {found : Found} → found ≡ Nothing → MarksGive x t offsets count row found g g best best
 unfolding elementsIn absent seen least Finds

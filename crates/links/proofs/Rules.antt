@@ -19,7 +19,7 @@ use Rattle.ids.proofs.Rules.{ids, object-node, object-value, fresh-zero, fresh-
 use Rattle.links.specs.Says.{Numbered, Empty}
 use Rattle.links.proofs.Memo.{number-fits, number-short, kept-room, kept-put, kept-told}
 use Rattle.links.proofs.Walk.{walk-node, walk-less}
-use Rattle.links.proofs.Marking.{mark-other, mark-absent, mark-again, mark-new, marking-begin, marking-room, marking-turn, marked, marked-other, marked-nothing}
+use Rattle.links.proofs.Marking.{mark-other, mark-absent, mark-again, mark-new, marking-begin, marking-room, marking-turn, marked, marked-other, marked-at, marked-nothing}
 use Rattle.links.proofs.Answering.{open-other, open-absent, open-told, answering-begin, answering-turn, answered, answered-other, answered-nothing, answered-excused}
 use Rattle.links.proofs.Sweeps.{object-marks, filling-begin, filling-below, filling-above, filling-turn, filled, parent-some, parent-told, object-opens, opening-begin, opening-turn, opened, filled-all, all-given, objects-are, alone-are, links-given}
 
@@ -51,7 +51,7 @@ row-within l h = omega arith
 
 pub ruleset noting = (needs, number-fits, number-short, kept-room, kept-put, kept-told)
 
-pub ruleset marking = (checking, needs, ids, at-node, at-room, at-onward, walk-node, walk-less, mark-other, mark-absent, mark-again, mark-new, marking-begin, marking-room, marking-turn, marked, marked-other, marked-nothing)
+pub ruleset marking = (checking, needs, ids, at-node, at-room, at-onward, walk-node, walk-less, mark-other, mark-absent, mark-again, mark-new, marking-begin, marking-room, marking-turn, marked, marked-other, marked-at, marked-nothing)
 
 pub ruleset answering = (checking, needs, ids, at-node, at-room, at-onward, walk-node, walk-less, open-other, open-absent, open-told, answering-begin, answering-turn, answered, answered-other, answered-nothing, answered-excused)
 

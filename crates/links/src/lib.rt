@@ -8,6 +8,7 @@ ghost use lib.ListN.{length, getD};
 ghost use Rattle.nodes.specs.Access as access;
 ghost use Rattle.nodes.specs.Faults.{least};
 ghost use Rattle.nodes.specs.Says.{Node, Sought, Seeks, Gives};
+ghost use Rattle.nodes.specs.declared.Found.the-variants.{At};
 ghost use Rattle.ids.specs.Says.{TextNode, Objects, Numbers};
 ghost use Rattle.links.specs.Links.{hasParent};
 ghost use Rattle.links.specs.Says.{Numbered, Kept, Alone, MarkGives, MarksGive, ObjectMarks, AllMarks, Filled, OpenGives, OpensGive, ObjectOpens, AllOpens, Empty, AllGive, Ready, LinksGive};
@@ -100,7 +101,7 @@ fn mark(
     best
 }
 
-// Rule 15 of the list that was found, of the object of number `row`, whose row of the set is empty; afterwards it has the objects of the list.
+// Rule 15 of the value at node i, a list of the object of number `row`, whose row of the set is empty; afterwards it has the objects of the list.
 fn mark_list(
     text: &[u8],
     table: &[u32],
@@ -111,15 +112,12 @@ fn mark_list(
     memo: &mut [u16; 32784],
     set: &mut [u8],
     row: usize,
-    found: Found,
+    i: usize,
     best: u32,
 ) -> u32
-    requires { ⌜ (Numbered (now text) (now table) (now offsets) count (now heads) (now nexts)) × (Sought (now text) (now table) found) × (row * 128 + 128 ≤ length (now set)) × (Kept (now text) (now table) (now offsets) count (now memo)) ⌝ }
-    ensures { λ r. ⌜ (MarksGive (now (text .entry)) (now (table .entry)) (now (offsets .entry)) count row found (now (set .entry)) (now (set .exit)) best r) × (Kept (now (text .entry)) (now (table .entry)) (now (offsets .entry)) count (now (memo .exit))) ⌝ }
+    requires { ⌜ (Numbered (now text) (now table) (now offsets) count (now heads) (now nexts)) × (Node (now text) (now table) i) × (row * 128 + 128 ≤ length (now set)) × (Kept (now text) (now table) (now offsets) count (now memo)) ⌝ }
+    ensures { λ r. ⌜ (MarksGive (now (text .entry)) (now (table .entry)) (now (offsets .entry)) count row (At i) (now (set .entry)) (now (set .exit)) best r) × (Kept (now (text .entry)) (now (table .entry)) (now (offsets .entry)) count (now (memo .exit))) ⌝ }
 {
-    let Found::At(i) = found else {
-        return best;
-    };
     if !nodes::is_array(text, table, i) {
         return best;
     }
@@ -145,6 +143,41 @@ fn mark_list(
     least
 }
 
+// The same of what was found under the list's name. Most objects have no such list.
+fn mark_found(
+    text: &[u8],
+    table: &[u32],
+    offsets: &[usize; 1024],
+    count: usize,
+    heads: &[u16; 4096],
+    nexts: &[u16; 1024],
+    memo: &mut [u16; 32784],
+    set: &mut [u8],
+    row: usize,
+    found: Found,
+    best: u32,
+) -> u32
+    requires { ⌜ (Numbered (now text) (now table) (now offsets) count (now heads) (now nexts)) × (Sought (now text) (now table) found) × (row * 128 + 128 ≤ length (now set)) × (Kept (now text) (now table) (now offsets) count (now memo)) ⌝ }
+    ensures { λ r. ⌜ (MarksGive (now (text .entry)) (now (table .entry)) (now (offsets .entry)) count row found (now (set .entry)) (now (set .exit)) best r) × (Kept (now (text .entry)) (now (table .entry)) (now (offsets .entry)) count (now (memo .exit))) ⌝ }
+{
+    let Found::At(i) = found else {
+        return best;
+    };
+    mark_list(
+        text,
+        table,
+        offsets,
+        count,
+        heads,
+        nexts,
+        memo,
+        set,
+        row,
+        i,
+        best,
+    )
+}
+
 // Rule 15 of the object of number k; afterwards the sets have what it lists.
 fn mark_object(
     text: &[u8],
@@ -166,7 +199,7 @@ fn mark_object(
     let i = own + 3;
     let below = nodes::member(text, table, i, b"children");
     let above = nodes::member(text, table, i, b"parents");
-    let a = mark_list(
+    let a = mark_found(
         text,
         table,
         offsets,
@@ -179,7 +212,7 @@ fn mark_object(
         below,
         best,
     );
-    mark_list(
+    mark_found(
         text,
         table,
         offsets,

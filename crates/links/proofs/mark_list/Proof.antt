@@ -8,10 +8,10 @@ use Rattle.links.proofs.mark_list.Statement.{statement}
 use Rattle.links.proofs.mark_list.Tie as tie
 
 abbrev Inv-loop : tie.InvT-loop
-Inv-loop text table offsets count heads nexts memo₀ set₀ row best i n least₀ k₀ memo set least k = (Marking text table offsets count row i best n k least set₀ set) × (Kept text table offsets count memo)
+Inv-loop text table offsets count heads nexts memo₀ set₀ row i best n least₀ k₀ memo set least k = (Marking text table offsets count row i best n k least set₀ set) × (Kept text table offsets count memo)
 
 abbrev μ-loop : tie.MeasureT-loop
-μ-loop text table offsets count heads nexts memo₀ set₀ row best i n least₀ k₀ memo set least k = n - k
+μ-loop text table offsets count heads nexts memo₀ set₀ row i best n least₀ k₀ memo set least k = n - k
 
 next-requires-2 : tie.Need-next-requires-2 Inv-loop μ-loop
 next-requires-2 c κs = walk-next (c .before .before .before .before .before .before .loop .inv .0 .walk) (c .before .before .before .before .before .loop-test .taken)
@@ -22,9 +22,6 @@ mark-list-spec =
     (tie.spec
     Inv-loop
     μ-loop
-    (λ c. search marking)
-    (λ c. search marking)
-    (λ c. search marking)
     (λ c κs. search marking)
     (λ c. search marking)
     (λ c κs. search marking)

@@ -21,15 +21,15 @@ member-requires c κs = let p = c .before .before .before .before .before .befor
 member-requires-2 : tie.Need-member-requires-2
 member-requires-2 c κs = let p = c .before .before .before .before .before .before .before .before .pre in object-at (p .0) (p .1)
 
-mark-list-requires : tie.Need-mark-list-requires
-mark-list-requires c κs = let p = c .before .before .before .before .before .before .before .before .before .before .before .pre in (p .0, sought-in (c .before .before .before .before .member .ensures) (object-at (p .0) (p .1)), row-within (p .1) (p .2), p .4)
+mark-found-requires : tie.Need-mark-found-requires
+mark-found-requires c κs = let p = c .before .before .before .before .before .before .before .before .before .before .before .pre in (p .0, sought-in (c .before .before .before .before .member .ensures) (object-at (p .0) (p .1)), row-within (p .1) (p .2), p .4)
 
-mark-list-requires-2 : tie.Need-mark-list-requires-2
-mark-list-requires-2 c κs = let p = c .before .before .before .before .before .before .before .before .before .before .before .before .before .before .before .before .pre in (p .0, sought-in (c .before .before .before .before .before .before .before .member2 .ensures) (object-at (p .0) (p .1)), row-within (p .1) (p .3), c .before .before .before .before .mark-list .ensures .1)
+mark-found-requires-2 : tie.Need-mark-found-requires-2
+mark-found-requires-2 c κs = let p = c .before .before .before .before .before .before .before .before .before .before .before .before .before .before .before .before .pre in (p .0, sought-in (c .before .before .before .before .before .before .before .member2 .ensures) (object-at (p .0) (p .1)), row-within (p .1) (p .3), c .before .before .before .before .mark-found .ensures .1)
 
 returns : tie.Need-returns
 unfolding ascii
-returns c = let p = c .before .before .before .before .before .before .before .before .before .before .before .before .before .before .before .before .before .before .before .pre in (object-marks (seeks-find "children" refl (c .before .before .before .before .before .before .before .before .before .before .before .before .member .ensures)) (seeks-find "parents" refl (c .before .before .before .before .before .before .before .before .before .before .member2 .ensures)) (c .before .before .before .before .before .before .before .mark-list .ensures .0) (c .before .before .mark-list2 .ensures .0) (p .1) (p .2) (p .3), c .before .before .mark-list2 .ensures .1)
+returns c = let p = c .before .before .before .before .before .before .before .before .before .before .before .before .before .before .before .before .before .before .before .pre in (object-marks (seeks-find "children" refl (c .before .before .before .before .before .before .before .before .before .before .before .before .member .ensures)) (seeks-find "parents" refl (c .before .before .before .before .before .before .before .before .before .before .member2 .ensures)) (c .before .before .before .before .before .before .before .mark-found .ensures .0) (c .before .before .mark-found2 .ensures .0) (p .1) (p .2) (p .3), c .before .before .mark-found2 .ensures .1)
 
 pub mark-object-spec : {M : Type 1} → statement M
 mark-object-spec =
@@ -42,8 +42,8 @@ mark-object-spec =
     member-requires
     (λ c. search sweeping)
     member-requires-2
-    mark-list-requires
-    mark-list-requires-2
+    mark-found-requires
+    mark-found-requires-2
     (λ c. search sweeping)
     (λ c. search sweeping)
     returns)
