@@ -1,5 +1,6 @@
 -- What the proofs of several functions use.
 mod Bytes
+mod EightBytes
 mod Moves
 mod Parts
 mod Leaves

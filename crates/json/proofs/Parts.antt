@@ -1,5 +1,6 @@
 -- How a part of a text is put together from parts. Assumes nothing.
-use Prim.Native.Nat.{ℕ, zero, suc, _+_, _-_, _≤_, _<_}
+use Prim.Native.Nat.{ℕ, zero, suc, _+_, _-_, _/_, _≤_, _<_}
+use native.Mathlib.Nat.{add-zero}
 use native.Mathlib.Omega.{arith}
 use native.Mathlib.Numerals.{add-one, sub-one}
 use mathlib.Core.Path.{_≡_, refl, _∙_, subst}
@@ -7,12 +8,15 @@ use mathlib.Core.Bool.{true, false}
 use mathlib.Core.List.{List, [], _∷_}
 use lib.ListN.{length, getD, drop, drop-of-length-le}
 use lib.Seq.{drop-cons}
+use lib.Count.{trailingZeros, trailing-le, trailing-of-zero}
 use lib.Dec.{T}
+use mir.Syntax.{w64}
+use mir.Val.{Fits}
 use denote.Enum.Declared.{tagOf}
 use Rattle.json.proofs.Scan.{the-type}
 use Rattle.json.specs.Machine.{Frame, Mode, step, go, dead, bad, ending, isDigit, isHex, isEscape}
 use Rattle.json.specs.Machine.Mode.{nought, int, frac, mant, exps}
-use Rattle.json.specs.Says.{land, Within, Reads, Skips, digital, to, numbered, StringAt, charsOf, escOf, hexOf, closedOf, ReadsString, WordAt, literalOf, ReadsWord}
+use Rattle.json.specs.Says.{land, Within, Reads, Skips, digital, to, numbered, StringAt, charsOf, escOf, hexOf, closedOf, ReadsString, Unescaped, Eight, Marked, Passes, WordAt, literalOf, ReadsWord}
 use Rattle.json.specs.declared.Scan.{Scan}
 use Rattle.json.specs.declared.Scan.the-variants.{End, Bad}
 use Rattle.json.specs.Steps.{mant-else, int-else, frac-else, exps-else, esc-u, esc-yes, esc-no, hex-yes, hex-no, chars-quote, chars-esc, chars-no, chars-more, lit-last, lit-more, lit-no}
@@ -209,6 +213,10 @@ module _ {text : List ℕ} {at i : ℕ} (h : Reads text charsOf (to charsOf) at 
   pub string-letter : i < length text → 92 < getD text i 0 → Reads text charsOf (to charsOf) at (End (i + 1))
   string-letter l b = string-plain l (λ e. omega arith) (λ e. omega arith) (omega arith)
 
+  -- the rest of the string is read from i on
+  pub string-rest : {r : Scan} → ReadsString text i r → ReadsString text at r
+  string-rest {r} s = record { reads = joins charsOf charsOf (closedOf text) h refl (s .reads); past = within-less (at + 1) (i + 1) (length text) r (omega (arith, h .within .0)) (s .past) }
+
   module _ {r : Scan} (p : Reads text escOf (to charsOf) (i + 1) r) (l : i < length text) (b : getD text i 0 ≡ 92) where
     escaped : Reads text charsOf (to charsOf) i r
     unfolding charsOf escOf
@@ -226,3 +234,36 @@ module _ {text : List ℕ} {at i : ℕ} (h : Reads text charsOf (to charsOf) at 
 
 pub escape-less : {text : List ℕ} (i : ℕ) {e : ℕ} {r : Scan} → Reads text escOf (to charsOf) (i + 1) r → r ≡ End e → length text - e < length text - i
 escape-less i p q = let l = end-low p q in let h = end-high p q in omega arith
+
+-- several bytes that a string has as they stand
+string-run : {text : List ℕ} {at i : ℕ} → Reads text charsOf (to charsOf) at (End i) → (k : ℕ) → i + k ≤ length text → ((j : ℕ) → j < k → Unescaped (getD text (i + j) 0)) → Reads text charsOf (to charsOf) at (End (i + k))
+string-run {i = i} h zero l u = rw (add-zero i) h
+string-run {i = i} h (suc k) l u =
+    let b = u k (omega arith) in
+    let e : i + k + 1 ≡ i + suc k = omega arith in
+    rw e at (string-plain (string-run h k (omega arith) (λ j z. u j (omega arith))) (omega arith) (b .no-quote) (b .no-backslash) (b .no-control))
+
+-- `plain_end`
+pub passes-start : {text : List ℕ} {at : ℕ} → at ≤ length text → Passes text at at
+passes-start h = record { high = h; reads = string-start h }
+
+-- the mark is in one of eight bytes
+marks-high : (m : ℕ) → trailingZeros 64 m / 8 ≤ 8
+marks-high m = let h = trailing-le 64 m in omega arith
+
+-- where the mark is, as a number of 64 bits
+pub mark-fits : (m : ℕ) → Fits w64 (trailingZeros 64 m / 8)
+mark-fits m = let h = marks-high m in omega arith
+
+pub part-fits : (i m : ℕ) → Fits w64 (i + 8) → Fits w64 (i + trailingZeros 64 m / 8)
+part-fits i m f = let h = marks-high m in let l = f .fits in omega arith
+
+module _ {text : List ℕ} {at i x m : ℕ} (p : Passes text at i) (e : Eight text i x) (k : Marked x m) (l : 8 ≤ length text - i) where
+  pub passes-part : Passes text at (i + trailingZeros 64 m / 8)
+  passes-part =
+      let h = marks-high m in
+      let r : i + trailingZeros 64 m / 8 ≤ length text = omega arith in
+      record { high = r; reads = string-run (p .reads) (trailingZeros 64 m / 8) r (λ j z. subst Unescaped (e .same j (omega arith)) (k .below j z)) }
+
+  pub passes-all : m ≡ 0 → Passes text at (i + 8)
+  passes-all z = let t : trailingZeros 64 m ≡ 64 = rw z (trailing-of-zero 64) in rw t at passes-part

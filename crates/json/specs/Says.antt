@@ -1,10 +1,11 @@
 -- What the parts of the parser say of the machine and of the table. Assumes nothing: these are definitions.
-use Prim.Native.Nat.{ℕ, zero, suc, _+_, _*_, _^_, _≤_, _<_}
+use Prim.Native.Nat.{ℕ, zero, suc, _+_, _*_, _/_, _%_, _^_, _≤_, _<_}
 use mathlib.Core.Path.{_≡_}
 use mathlib.Core.Bool.{Bool, true, false}
 use mathlib.Core.Option.{Option}
 use mathlib.Core.List.{List, [], _∷_}
 use lib.ListN.{length, getD, drop}
+use lib.Count.{trailingZeros}
 use lib.Dec.{T}
 use Rattle.json.specs.Tree.{Json, Members, Name}
 use Rattle.json.specs.Machine.{Frame, Role, Mode, Outcome, bad, tooDeep, object, run, isBlank, closed, numeral, literal}
@@ -122,6 +123,30 @@ closedOf text s e = closed 32 text (s .role) (s .begun) e
 pub record ReadsString (text : List ℕ) (at : ℕ) (r : Scan) : Type 0 where
   pub reads : Reads text charsOf (closedOf text) at r
   pub past : Within (at + 1) (length text) r
+
+-- a byte that a string has as it stands
+pub record Unescaped (b : ℕ) : Type 0 where
+  pub no-quote : b ≡ 34 → ⊥
+  pub no-backslash : b ≡ 92 → ⊥
+  pub no-control : 32 ≤ b
+
+-- a byte of a number; the lowest has the index 0
+unfoldable pub byteAt : ℕ → ℕ → ℕ
+byteAt zero x = x % 256
+byteAt (suc j) x = byteAt j (x / 256)
+
+-- what `eight` tells: the eight bytes of x are those of the text from i on
+pub record Eight (text : List ℕ) (i x : ℕ) : Type 0 where
+  pub same : (j : ℕ) → j < 8 → byteAt j x ≡ getD text (i + j) 0
+
+-- what `marks` tells: a string has the bytes of x below the lowest bit that is set in m as they stand
+pub record Marked (x m : ℕ) : Type 0 where
+  pub below : (j : ℕ) → j < trailingZeros 64 m / 8 → Unescaped (byteAt j x)
+
+-- what `plain_end` tells: a string that is being read at the offset at is still being read at r
+pub record Passes (text : List ℕ) (at r : ℕ) : Type 0 where
+  pub high : r ≤ length text
+  pub reads : Reads text charsOf (to charsOf) at (scan.End r)
 
 -- a word that is being read: where it began, and what it stands for
 pub record WordAt : Type 0 where

@@ -1,10 +1,11 @@
 // JSON texts (RFC 8259): a text is read once, and the node table of its tree is written.
+use std::num::wrapping_sub_u64;
 ghost use Prim.Native.Nat.{_+_, _≤_};
 ghost use mathlib.Core.Path.{_≡_};
 ghost use lib.ListN.{length};
 ghost use Rattle.json.specs.Machine.{isBlank, isDigit, isHex, isEscape};
 ghost use Rattle.json.specs.Machine.Mode.{want, first, name0, neg, nought, int, dot, mant, exp, sign};
-ghost use Rattle.json.specs.Says.{blanks, digital, Skips, Reads, to, numbered, charsOf, escOf, hexOf, ReadsString, ReadsWord, Fits, Wrote, Plain, Quote, Scalar, Digits, Atom, Ready, Opened, Told, Names, Member};
+ghost use Rattle.json.specs.Says.{blanks, digital, Skips, Reads, to, numbered, charsOf, escOf, hexOf, ReadsString, Eight, Marked, Passes, ReadsWord, Fits, Wrote, Plain, Quote, Scalar, Digits, Atom, Ready, Opened, Told, Names, Member};
 ghost use Rattle.json.specs.Parse.{Tells};
 
 // What reading a text gives: how many words of the table are its tree's; the offset of a byte that no JSON text has there, or of
@@ -288,6 +289,62 @@ fn string(text: &[u8], at: usize) -> Scan
     Scan::Bad(i)
 }
 
+// The eight bytes from i on as one number, the first lowest.
+fn eight(text: &[u8], i: usize) -> u64
+    requires { ⌜ i + 8 ≤ length (now text) ⌝ }
+    ensures { λ r. ⌜ Eight (now (text .entry)) i r ⌝ }
+{
+    text[i] as u64
+        | (text[i + 1] as u64) << 8
+        | (text[i + 2] as u64) << 16
+        | (text[i + 3] as u64) << 24
+        | (text[i + 4] as u64) << 32
+        | (text[i + 5] as u64) << 40
+        | (text[i + 6] as u64) << 48
+        | (text[i + 7] as u64) << 56
+}
+
+// Bit 7 of each byte that is a quote, a backslash or below 32; above the lowest such byte that of other bytes may be set too.
+fn marks(x: u64) -> u64
+    ensures { λ r. ⌜ Marked x r ⌝ }
+{
+    (wrapping_sub_u64(x ^ 0x2222_2222_2222_2222, 0x0101_0101_0101_0101)
+        | wrapping_sub_u64(x ^ 0x5c5c_5c5c_5c5c_5c5c, 0x0101_0101_0101_0101)
+        | wrapping_sub_u64(x, 0x2020_2020_2020_2020))
+        & (x ^ 0xffff_ffff_ffff_ffff)
+        & 0x8080_8080_8080_8080
+}
+
+// Past bytes that a string may have as they stand: up to one that it may not, or to less than eight bytes before the text's end.
+fn plain_end(text: &[u8], at: usize) -> usize
+    requires { ⌜ at ≤ length (now text) ⌝ }
+    ensures { λ r. ⌜ Passes (now (text .entry)) at r ⌝ }
+{
+    let mut i = at;
+    while text.len() - i >= 8 {
+        let m = marks(eight(text, i));
+        if m != 0 {
+            return i + (u64::trailing_zeros(m) / 8) as usize;
+        }
+        i += 8;
+    }
+    i
+}
+
+// A string, after its first quote: most have no escape.
+fn closing(text: &[u8], at: usize) -> Scan
+    requires { ⌜ at ≤ length (now text) ⌝ }
+    ensures { λ r. ⌜ ReadsString (now (text .entry)) at r ⌝ }
+{
+    let q = plain_end(text, at);
+    if q < text.len() {
+        if text[q] == b'"' {
+            return Scan::End(q + 1);
+        }
+    }
+    string(text, q)
+}
+
 // Writes a node, the three words at i.
 fn put_node(table: &mut [u32], i: usize, start: usize, end: usize, next: usize)
     requires { ⌜ Fits (now table) i start end next ⌝ }
@@ -366,7 +423,7 @@ fn text_node(text: &[u8], at: usize, table: &mut [u32], n: usize) -> Walk
     requires { ⌜ (Quote (now text) at) × (Ready (now text) (now table) at 0 32 n) ⌝ }
     ensures { λ r. ⌜ Atom (now (text .entry)) (now (table .entry)) (now (table .exit)) at n r ⌝ }
 {
-    let r = string(text, at + 1);
+    let r = closing(text, at + 1);
     match r {
         Scan::Bad(q) => Walk::Bad(q),
         Scan::End(e) => {
@@ -388,7 +445,7 @@ fn member_name(text: &[u8], at: usize, table: &mut [u32], n: usize) -> Scan
     if text[i] != b'"' {
         return Scan::Bad(i);
     }
-    let r = string(text, i + 1);
+    let r = closing(text, i + 1);
     match r {
         Scan::Bad(q) => Scan::Bad(q),
         Scan::End(e) => {
