@@ -10,6 +10,7 @@ use lib.ListN.{length, getD}
 use lib.Dec.{ltb}
 use borrow.Author.Tests.{not-true, not-false, lt-ltb, le-ltb}
 use Rattle.utf8.specs.Utf8.{same}
+use Rattle.words.specs.Words.{is}
 use Rattle.grid.specs.Grid.{holds}
 use Rattle.json.specs.Tree.{Json}
 use Rattle.json.specs.Table.{Sub}
@@ -23,13 +24,14 @@ use Rattle.nodes.specs.Says.{Node, Gives, GivesFound}
 use Rattle.nodes.specs.declared.Found.{Found}
 use Rattle.nodes.specs.declared.Found.the-variants.{At, Nothing}
 use Rattle.shapes.specs.Checks.{unless, isSome}
+use Rattle.fields.specs.Fields.{typeText}
 use Rattle.fields.specs.Laws.{of-none, of-some}
 use Rattle.ids.specs.Says.{Offsets, Numbers, namesOf}
 use Rattle.ids.proofs.Rules.{nobody}
 use Rattle.ids.proofs.Chains.{names-all}
 use Rattle.links.specs.Links.{elementsIn, listedIn, idsAmong, idsIn}
 use Rattle.links.specs.Passes.{openAt, openIn, marks}
-use Rattle.links.specs.Says.{seen, Row, RowsTo, OpenGives, OpensGive}
+use Rattle.links.specs.Says.{seen, Row, RowsTo, OpenGives, OpensGive, ChildrenGive}
 use Rattle.links.proofs.Marks.{among-marks, named-number}
 use Rattle.links.proofs.Marking.{named, string-at-node}
 use Rattle.links.proofs.Split.{excused-none}
@@ -144,18 +146,35 @@ module _ {x t offsets : List ℕ} {count own i : ℕ} {g : List ℕ} where
       walk = walk-turn (p .walk) l (Rests x t offsets count own best acc′ g) q (λ all v vs s u. record { of = λ ms o back r id z. rw (e .is ms o back r id z .is v s) (sym (open-cons acc ms back id v vs) ∙ u .of ms o back r id z) });
     }
 
-    pub answered : {found : Found} {excused : Bool} → excused ≡ false → found ≡ At i → n ≤ k → OpensGive x t offsets count own excused found g best acc
+    pub answered : n ≤ k → OpensGive x t offsets count own false (At i) g best acc
     unfolding elementsIn openIn least
-    answered f q h = rw f (record { is = λ ms o back r id e. of-some (λ z. least best (openIn ms back id false (elementsIn z))) q (record { is = λ v s. walk-done (p .walk) h s .of ms o back r id e }) })
+    answered h = record { is = λ ms o back r id e. of-some (λ z. least best (openIn ms back id false (elementsIn z))) refl (record { is = λ v s. walk-done (p .walk) h s .of ms o back r id e }) }
 
-  pub answered-other : (best : ℕ) {found : Found} {b excused : Bool} → excused ≡ false → found ≡ At i → Gives isArrayValue x t i b → not b ≡ true → OpensGive x t offsets count own excused found g best best
+  pub answered-other : (best : ℕ) {b : Bool} → Gives isArrayValue x t i b → not b ≡ true → OpensGive x t offsets count own false (At i) g best best
   unfolding elementsIn openIn least
-  answered-other best {b = b} f q a h = rw f (record { is = λ ms o back r id e. of-some (λ z. least best (openIn ms back id false (elementsIn z))) q (record { is = λ v s. sym (ap (λ l. least best (openIn ms back id false l)) (no-elements v (sym (a .is v s) ∙ not-true b h))) }) })
+  answered-other best {b} a h = record { is = λ ms o back r id e. of-some (λ z. least best (openIn ms back id false (elementsIn z))) refl (record { is = λ v s. sym (ap (λ l. least best (openIn ms back id false l)) (no-elements v (sym (a .is v s) ∙ not-true b h))) }) }
 
-module _ {x t offsets : List ℕ} {count own best : ℕ} {g : List ℕ} {found : Found} {excused : Bool} where
-  pub answered-nothing : excused ≡ false → found ≡ Nothing → OpensGive x t offsets count own excused found g best best
+-- ---- what was found
+
+module _ {x t offsets : List ℕ} {count own best : ℕ} {g : List ℕ} {found : Found} where
+  pub answered-nothing : {excused : Bool} → found ≡ Nothing → OpensGive x t offsets count own excused found g best best
   unfolding elementsIn openIn least
-  answered-nothing f q = rw f (record { is = λ ms o back r id e. of-none (λ z. least best (openIn ms back id false (elementsIn z))) q refl })
+  answered-nothing {excused} q = record { is = λ ms o back r id e. of-none (λ z. least best (openIn ms back id excused (elementsIn z))) q refl }
 
-  pub answered-excused : excused ≡ true → OpensGive x t offsets count own excused found g best best
+  answered-excused : {excused : Bool} → excused ≡ true → OpensGive x t offsets count own excused found g best best
   answered-excused f = rw f (record { is = λ ms o back r id e. record { is = λ z w. excused-none best ms back id (elementsIn z) } })
+
+  pub answered-at : {j r : ℕ} → found ≡ At j → OpensGive x t offsets count own false (At j) g best r → OpensGive x t offsets count own false found g best r
+  answered-at q m = rw q m
+
+  -- the children of an object
+  module _ {i : ℕ} where
+    pub children-nothing : found ≡ Nothing → ChildrenGive x t offsets count own i found g best best
+    children-nothing q = record { is = λ v s. answered-nothing q }
+
+    module _ {b : Bool} (d : Gives (λ v. is "CityObjectGroup" (typeText v)) x t i b) where
+      pub children-excused : b ≡ true → ChildrenGive x t offsets count own i found g best best
+      children-excused h = record { is = λ v s. answered-excused (sym (d .is v s) ∙ h) }
+
+      pub children-at : {j r : ℕ} → b ≡ false → found ≡ At j → OpensGive x t offsets count own false (At j) g best r → ChildrenGive x t offsets count own i found g best r
+      children-at h q m = record { is = λ v s. rw (← d .is v s, h) (answered-at q m) }

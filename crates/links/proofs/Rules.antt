@@ -1,18 +1,15 @@
 -- What the proofs of the functions over links use. Assumes nothing.
-use Prim.Native.Nat.{ℕ, _+_, _*_, _^_, _<_, _≤_}
+use Prim.Native.Nat.{ℕ, _+_, _*_, _<_, _≤_}
 use native.Mathlib.Omega.{arith}
 use mathlib.Core.Path.{_≡_}
 use mathlib.Core.List.{List}
 use mathlib.Core.Option.{Option}
 use lib.ListN.{length, getD, replicate}
 use borrow.Author.Needs.{needs}
-use mir.Val.{Fits}
-use mir.Syntax.{w64}
 use Rattle.json.specs.Tree.{Json}
 use Rattle.nodes.specs.Says.{Node, Sought, Seeks}
 use Rattle.nodes.specs.declared.Found.{Found}
-use Rattle.nodes.specs.declared.Found.the-variants.{At}
-use Rattle.shapes.specs.Laws.{checking, node-room, node-onward}
+use Rattle.shapes.specs.Laws.{checking}
 use Rattle.fields.specs.Laws.{at-node}
 use Rattle.ids.specs.Says.{Objects, Chains}
 use Rattle.ids.proofs.Rules.{ids, object-node, object-value, fresh-zero, fresh-length}
@@ -20,20 +17,12 @@ use Rattle.links.specs.Says.{Numbered, Empty}
 use Rattle.links.proofs.Memo.{number-fits, number-short, kept-room, kept-put, kept-told}
 use Rattle.links.proofs.Walk.{walk-node, walk-less}
 use Rattle.links.proofs.Marking.{mark-other, mark-absent, mark-again, mark-new, marking-begin, marking-room, marking-turn, marked, marked-other, marked-at, marked-nothing}
-use Rattle.links.proofs.Answering.{open-other, open-absent, open-told, answering-begin, answering-turn, answered, answered-other, answered-nothing, answered-excused}
+use Rattle.links.proofs.Answering.{open-other, open-absent, open-told, answering-begin, answering-turn, answered, answered-other, answered-nothing, answered-at, children-nothing, children-excused, children-at}
 use Rattle.links.proofs.Sweeps.{object-marks, filling-begin, filling-below, filling-above, filling-turn, filled, parent-some, parent-told, object-opens, opening-begin, opening-turn, opened, filled-all, all-given, objects-are, alone-are, links-given}
 
 -- what a search in a value found is sought
 pub sought-in : {x t : List ℕ} {i : ℕ} {found : Found} {f : Json → Option Json} → Seeks f x t i found → Node x t i → Sought x t found
 sought-in {f = f} s d = record { answer = f (d .value); finds = s .finds (d .value) (d .stands); short = d .short }
-
--- a node that was found lies in the table
-module _ {x t : List ℕ} {found : Found} {k : ℕ} (e : found ≡ At k) where
-  pub at-room : Sought x t found → k + 2 < length t
-  at-room s = node-room (at-node s e)
-
-  pub at-onward : Sought x t found → length t * 4 < 2 ^ 63 → Fits w64 (k + 3)
-  at-onward s h = node-onward (at-node s e) h
 
 -- the value of the object of number k, and its row
 pub object-at : {x t offsets : List ℕ} {count k : ℕ} {heads nexts : List ℕ} → Numbered x t offsets count heads nexts → k < count → Node x t (getD offsets k 0 + 3)
@@ -51,8 +40,8 @@ row-within l h = omega arith
 
 pub ruleset noting = (needs, number-fits, number-short, kept-room, kept-put, kept-told)
 
-pub ruleset marking = (checking, needs, ids, at-node, at-room, at-onward, walk-node, walk-less, mark-other, mark-absent, mark-again, mark-new, marking-begin, marking-room, marking-turn, marked, marked-other, marked-at, marked-nothing)
+pub ruleset marking = (checking, needs, ids, at-node, walk-node, walk-less, mark-other, mark-absent, mark-again, mark-new, marking-begin, marking-room, marking-turn, marked, marked-other, marked-at, marked-nothing)
 
-pub ruleset answering = (checking, needs, ids, at-node, at-room, at-onward, walk-node, walk-less, open-other, open-absent, open-told, answering-begin, answering-turn, answered, answered-other, answered-nothing, answered-excused)
+pub ruleset answering = (checking, needs, ids, at-node, walk-node, walk-less, open-other, open-absent, open-told, answering-begin, answering-turn, answered, answered-other, answered-nothing, answered-at, children-nothing, children-excused, children-at)
 
 pub ruleset sweeping = (checking, needs, ids, sought-in, filling-begin, filling-below, filling-above, filling-turn, filled, opening-begin, opening-turn, opened, filled-all, all-given, objects-are, alone-are, links-given)

@@ -33,7 +33,7 @@ use Rattle.ids.proofs.Rules.{nobody, name-text}
 use Rattle.ids.proofs.Chains.{names-all, name-is}
 use Rattle.links.specs.Links.{elementsIn, listedIn, isEmpty, hasParent, linksOfEach, linkFaults}
 use Rattle.links.specs.Passes.{absent, openIn, absentOf, openOf, absentOfEach, openOfEach, marks}
-use Rattle.links.specs.Says.{Numbered, Alone, seen, Row, Beside, MarksGive, RowsTo, ObjectMarks, AllMarks, Filled, OpensGive, ObjectOpens, AllOpens, Empty, AllGive, Ready, LinksGive}
+use Rattle.links.specs.Says.{Numbered, Alone, seen, Row, Beside, MarksGive, RowsTo, ObjectMarks, AllMarks, Filled, OpensGive, ChildrenGive, ObjectOpens, AllOpens, Empty, AllGive, Ready, LinksGive}
 use Rattle.links.proofs.Split.{split-objects}
 
 -- ---- rows
@@ -171,33 +171,41 @@ module _ {x t : List ℕ} {i : ℕ} {parents : Found} (best : ℕ) {count : ℕ}
   pub parent-some : (count ≡ 0 → ⊥) → Gives (λ v. least best (hasParent v)) x t i best
   parent-some h = record { is = λ v s. unless-true best 16 v (kept (codeOf objectWords (typeText v)) h) ∙ parent-by best v (codeOf objectWords (typeText v)) count refl (count-is s) }
 
-  pub parent-told : {kind : Found} {code r : ℕ} → count ≡ 0 → Seeks (λ v. find "type" v) x t i kind → GivesFound (λ o. codeOf objectWords (textIn o)) x t kind code → Gives (λ v. least best (unless (ltb code 17) 16 v)) x t i r → Gives (λ v. least best (hasParent v)) x t i r
-  unfolding typeText
-  parent-told {code = code} z k g u = record { is = λ v s. u .is v s ∙ (ap (λ b. least best (unless b 16 v)) (sym (first-level code)) ∙ parent-by best v code 0 (g .is (find "type" v) (k .finds v s)) (sym z ∙ count-is s)) }
+  pub parent-told : {code r : ℕ} → count ≡ 0 → Gives (λ v. codeOf objectWords (typeText v)) x t i code → Gives (λ v. least best (unless (ltb code 17) 16 v)) x t i r → Gives (λ v. least best (hasParent v)) x t i r
+  parent-told {code = code} z g u = record { is = λ v s. u .is v s ∙ (ap (λ b. least best (unless b 16 v)) (sym (first-level code)) ∙ parent-by best v code 0 (g .is v s) (sym z ∙ count-is s)) }
 
 -- ---- rules 16 and 17
 
-open-parts : (ms : List Member) (m : Member) → openOf ms m ≡ ((openIn ms "parents" (nameOf m) (same (ascii "CityObjectGroup") (textIn (find "type" (m .1)))) (elementsIn (find "children" (m .1))) ++ openIn ms "children" (nameOf m) false (elementsIn (find "parents" (m .1)))) ++ hasParent (m .1))
-unfolding openOf listedIn is typeText
+-- what is told of the type of the object at the node i
+module _ {x t : List ℕ} {i : ℕ} {kind : Found} (s : Seeks (λ v. find "type" v) x t i kind) where
+  pub type-code : {code : ℕ} → GivesFound (λ o. codeOf objectWords (textIn o)) x t kind code → Gives (λ v. codeOf objectWords (typeText v)) x t i code
+  unfolding typeText
+  type-code g = record { is = λ v u. g .is (find "type" v) (s .finds v u) }
+
+  pub type-is : (word : String) {b : Bool} → GivesFound (λ o. same (ascii word) (textIn o)) x t kind b → Gives (λ v. is word (typeText v)) x t i b
+  unfolding typeText is
+  type-is word g = record { is = λ v u. g .is (find "type" v) (s .finds v u) }
+
+open-parts : (ms : List Member) (m : Member) → openOf ms m ≡ ((openIn ms "parents" (nameOf m) (is "CityObjectGroup" (typeText (m .1))) (elementsIn (find "children" (m .1))) ++ openIn ms "children" (nameOf m) false (elementsIn (find "parents" (m .1)))) ++ hasParent (m .1))
+unfolding openOf listedIn
 open-parts ms m = refl
 
-pub object-opens : {x t offsets : List ℕ} {count k best a b r : ℕ} {c p : List ℕ} {kind below above : Found} {group : Bool}
-    → Seeks (λ v. find "type" v) x t (getD offsets k 0 + 3) kind → Seeks (λ v. find "children" v) x t (getD offsets k 0 + 3) below → Seeks (λ v. find "parents" v) x t (getD offsets k 0 + 3) above
-    → GivesFound (λ o. same (ascii "CityObjectGroup") (textIn o)) x t kind group → Alone x t offsets count → Filled x t offsets count c p → k < count
-    → OpensGive x t offsets count k group below p best a → OpensGive x t offsets count k false above c a b → Gives (λ v. least b (hasParent v)) x t (getD offsets k 0 + 3) r → ObjectOpens x t offsets count k best r
-object-opens {x} {t} {offsets} {k = k} {best} {a} {b} {r} {group = group} s u w g n f l A B h = record {
+pub object-opens : {x t offsets : List ℕ} {count k best a b r : ℕ} {c p : List ℕ} {below above : Found}
+    → Seeks (λ v. find "children" v) x t (getD offsets k 0 + 3) below → Seeks (λ v. find "parents" v) x t (getD offsets k 0 + 3) above
+    → Alone x t offsets count → Filled x t offsets count c p → k < count
+    → ChildrenGive x t offsets count k (getD offsets k 0 + 3) below p best a → OpensGive x t offsets count k false above c a b → Gives (λ v. least b (hasParent v)) x t (getD offsets k 0 + 3) r → ObjectOpens x t offsets count k best r
+object-opens {x} {t} {offsets} {k = k} {best} {a} {b} {r} u w n f l A B h = record {
   is = λ ms o d.
       let m = getD ms k d in
       let z = o .each k d l .value in
       let i : nameOf m ≡ textAt x t (getD offsets k 0) = name-text (o .each k d l) in
       let q : k ≡ numberOf (namesOf ms) (nameOf m) = sym (n .is ms o k l) ∙ ap (numberOf (namesOf ms)) (name-is o l ∙ sym i) in
-      let y : group ≡ same (ascii "CityObjectGroup") (textIn (find "type" (m .1))) = g .is _ (s .finds _ z) in
-      let C = openIn ms "parents" (nameOf m) group (elementsIn (find "children" (m .1))) in
+      let C = openIn ms "parents" (nameOf m) (is "CityObjectGroup" (typeText (m .1))) (elementsIn (find "children" (m .1))) in
       let D = openIn ms "children" (nameOf m) false (elementsIn (find "parents" (m .1))) in
-      let a′ : a ≡ least best C = A .is ms o "parents" (f .parents ms o) (nameOf m) q .is _ (u .finds _ z) in
+      let a′ : a ≡ least best C = A .is _ z .is ms o "parents" (f .parents ms o) (nameOf m) q .is _ (u .finds _ z) in
       let b′ : b ≡ least a D = B .is ms o "children" (f .children ms o) (nameOf m) q .is _ (w .finds _ z) in
       let e : r ≡ least best ((C ++ D) ++ hasParent (m .1)) = h .is _ z ∙ (ap (λ (v : ℕ). least v (hasParent (m .1))) (b′ ∙ (ap (λ (v : ℕ). least v D) a′ ∙ sym (least-++ best C D))) ∙ sym (least-++ best (C ++ D) (hasParent (m .1)))) in
-      rw (open-parts ms m, ← y) e;
+      rw (open-parts ms m) e;
 }
 
 -- what the loop of rules 16 and 17 knows where it has come to the k-th object, with the least fault acc

@@ -7,6 +7,7 @@ use mathlib.Core.Logic.{_⊎_}
 use Prim.Native.Nat.{ℕ, _+_, _*_, _<_, _≤_}
 use Prim.Native.String.{String}
 use lib.ListN.{length, getD}
+use Rattle.words.specs.Words as word
 use Rattle.grid.specs.Grid.{holds}
 use Rattle.json.specs.Tree.{Json}
 use Rattle.json.specs.Table.{Sub}
@@ -16,7 +17,7 @@ use Rattle.nodes.specs.Faults.{least}
 use Rattle.nodes.specs.Parts.{textAt}
 use Rattle.nodes.specs.Says.{Finds, Gives, GivesFound}
 use Rattle.nodes.specs.declared.Found.{Found}
-use Rattle.fields.specs.Fields.{objectsOf}
+use Rattle.fields.specs.Fields.{typeText, objectsOf}
 use Rattle.fields.specs.Says.{Indexed}
 use Rattle.fields.specs.declared.Index.{Index}
 use Rattle.ids.specs.Says.{Offsets, Objects, Chains, namesOf}
@@ -99,6 +100,10 @@ pub record OpenGives (x t offsets : List ℕ) (count own k : ℕ) (g : List ℕ)
 pub record OpensGive (x t offsets : List ℕ) (count own : ℕ) (excused : Bool) (found : Found) (g : List ℕ) (best r : ℕ) : Type 0 where
   pub is : (ms : List Member) → Offsets x t ms offsets count → (back : String) → RowsTo ms back g count → (id : List ℕ) → own ≡ numberOf (namesOf ms) id
       → GivesFound (λ o. least best (openIn ms back id excused (elementsIn o))) x t found r
+
+-- the same of the children that were found of the object at the node i, which are excused if it is a group
+pub record ChildrenGive (x t offsets : List ℕ) (count own i : ℕ) (found : Found) (g : List ℕ) (best r : ℕ) : Type 0 where
+  pub is : (v : Json) → Sub x t i v → OpensGive x t offsets count own (word.is "CityObjectGroup" (typeText v)) found g best r
 
 -- rules 16 and 17 of the object of number k, and of all objects
 pub record ObjectOpens (x t offsets : List ℕ) (count k best r : ℕ) : Type 0 where

@@ -5,13 +5,16 @@ use nodes::Found;
 ghost use Prim.Native.Nat.{ℕ, _+_, _*_, _<_, _≤_};
 ghost use mathlib.Core.Path.{_≡_};
 ghost use lib.ListN.{length, getD};
+ghost use mathlib.Core.Bool.{false};
+ghost use Rattle.words.specs.Words.{objectWords, codeOf, is};
 ghost use Rattle.nodes.specs.Access as access;
 ghost use Rattle.nodes.specs.Faults.{least};
 ghost use Rattle.nodes.specs.Says.{Node, Sought, Seeks, Gives};
 ghost use Rattle.nodes.specs.declared.Found.the-variants.{At};
+ghost use Rattle.fields.specs.Fields.{typeText};
 ghost use Rattle.ids.specs.Says.{TextNode, Objects, Numbers};
 ghost use Rattle.links.specs.Links.{hasParent};
-ghost use Rattle.links.specs.Says.{Numbered, Kept, Alone, MarkGives, MarksGive, ObjectMarks, AllMarks, Filled, OpenGives, OpensGive, ObjectOpens, AllOpens, Empty, AllGive, Ready, LinksGive};
+ghost use Rattle.links.specs.Says.{Numbered, Kept, Alone, MarkGives, MarksGive, ObjectMarks, AllMarks, Filled, OpenGives, OpensGive, ChildrenGive, ObjectOpens, AllOpens, Empty, AllGive, Ready, LinksGive};
 
 // A number of the memo, as a number of full width.
 fn wide(w: u16) -> usize
@@ -291,7 +294,7 @@ fn answer(
     shapes::unless(grid::has(set, other, own), 17, text, table, k, best)
 }
 
-// Rule 17 of the list that was found, of the object of number `own`, unless it is excused.
+// Rule 17 of the value at node i, a list of the object of number `own`.
 fn answer_list(
     text: &[u8],
     table: &[u32],
@@ -302,19 +305,12 @@ fn answer_list(
     memo: &[u16; 32784],
     set: &[u8],
     own: usize,
-    excused: bool,
-    found: Found,
+    i: usize,
     best: u32,
 ) -> u32
-    requires { ⌜ (Numbered (now text) (now table) (now offsets) count (now heads) (now nexts)) × (Sought (now text) (now table) found) × (own < count) × (count * 128 ≤ length (now set)) × (Kept (now text) (now table) (now offsets) count (now memo)) ⌝ }
-    ensures { λ r. ⌜ OpensGive (now (text .entry)) (now (table .entry)) (now (offsets .entry)) count own excused found (now (set .entry)) best r ⌝ }
+    requires { ⌜ (Numbered (now text) (now table) (now offsets) count (now heads) (now nexts)) × (Node (now text) (now table) i) × (own < count) × (count * 128 ≤ length (now set)) × (Kept (now text) (now table) (now offsets) count (now memo)) ⌝ }
+    ensures { λ r. ⌜ OpensGive (now (text .entry)) (now (table .entry)) (now (offsets .entry)) count own false (At i) (now (set .entry)) best r ⌝ }
 {
-    if excused {
-        return best;
-    }
-    let Found::At(i) = found else {
-        return best;
-    };
     if !nodes::is_array(text, table, i) {
         return best;
     }
@@ -340,16 +336,108 @@ fn answer_list(
     least
 }
 
+// Is the object at node i a `CityObjectGroup`?
+fn is_group(text: &[u8], table: &[u32], i: usize) -> bool
+    requires { ⌜ Node (now text) (now table) i ⌝ }
+    ensures { λ r. ⌜ Gives (λ v. is "CityObjectGroup" (typeText v)) (now (text .entry)) (now (table .entry)) i r ⌝ }
+{
+    let kind = nodes::member(text, table, i, b"type");
+    fields::found_word(text, table, kind, b"CityObjectGroup")
+}
+
+// Rule 17 of the children that were found, of the object of number `own` at node i, unless it is a group.
+fn answer_children(
+    text: &[u8],
+    table: &[u32],
+    offsets: &[usize; 1024],
+    count: usize,
+    heads: &[u16; 4096],
+    nexts: &[u16; 1024],
+    memo: &[u16; 32784],
+    parents: &[u8],
+    own: usize,
+    i: usize,
+    found: Found,
+    best: u32,
+) -> u32
+    requires { ⌜ (Numbered (now text) (now table) (now offsets) count (now heads) (now nexts)) × (Node (now text) (now table) i) × (Sought (now text) (now table) found) × (own < count) × (count * 128 ≤ length (now parents)) × (Kept (now text) (now table) (now offsets) count (now memo)) ⌝ }
+    ensures { λ r. ⌜ ChildrenGive (now (text .entry)) (now (table .entry)) (now (offsets .entry)) count own i found (now (parents .entry)) best r ⌝ }
+{
+    let Found::At(j) = found else {
+        return best;
+    };
+    if is_group(text, table, i) {
+        return best;
+    }
+    answer_list(
+        text,
+        table,
+        offsets,
+        count,
+        heads,
+        nexts,
+        memo,
+        parents,
+        own,
+        j,
+        best,
+    )
+}
+
+// Rule 17 of the parents that were found, of the object of number `own`.
+fn answer_parents(
+    text: &[u8],
+    table: &[u32],
+    offsets: &[usize; 1024],
+    count: usize,
+    heads: &[u16; 4096],
+    nexts: &[u16; 1024],
+    memo: &[u16; 32784],
+    children: &[u8],
+    own: usize,
+    found: Found,
+    best: u32,
+) -> u32
+    requires { ⌜ (Numbered (now text) (now table) (now offsets) count (now heads) (now nexts)) × (Sought (now text) (now table) found) × (own < count) × (count * 128 ≤ length (now children)) × (Kept (now text) (now table) (now offsets) count (now memo)) ⌝ }
+    ensures { λ r. ⌜ OpensGive (now (text .entry)) (now (table .entry)) (now (offsets .entry)) count own false found (now (children .entry)) best r ⌝ }
+{
+    let Found::At(j) = found else {
+        return best;
+    };
+    answer_list(
+        text,
+        table,
+        offsets,
+        count,
+        heads,
+        nexts,
+        memo,
+        children,
+        own,
+        j,
+        best,
+    )
+}
+
+// The code of the type of the object at node i.
+fn type_code(text: &[u8], table: &[u32], i: usize) -> usize
+    requires { ⌜ Node (now text) (now table) i ⌝ }
+    ensures { λ r. ⌜ Gives (λ v. codeOf objectWords (typeText v)) (now (text .entry)) (now (table .entry)) i r ⌝ }
+{
+    let kind = nodes::member(text, table, i, b"type");
+    fields::object_code(text, table, kind)
+}
+
 // Rule 16: a second-level object lists a parent.
-fn has_parent(text: &[u8], table: &[u32], i: usize, kind: Found, parents: Found, best: u32) -> u32
-    requires { ⌜ (Node (now text) (now table) i) × (Seeks (λ v. access.find "type" v) (now text) (now table) i kind) × (Seeks (λ v. access.find "parents" v) (now text) (now table) i parents) ⌝ }
+fn has_parent(text: &[u8], table: &[u32], i: usize, parents: Found, best: u32) -> u32
+    requires { ⌜ (Node (now text) (now table) i) × (Seeks (λ v. access.find "parents" v) (now text) (now table) i parents) ⌝ }
     ensures { λ r. ⌜ Gives (λ v. least best (hasParent v)) (now (text .entry)) (now (table .entry)) i r ⌝ }
 {
     let count = fields::count_found(text, table, parents);
     if count != 0 {
         return best;
     }
-    let code = fields::object_code(text, table, kind);
+    let code = type_code(text, table, i);
     shapes::unless(code < 17, 16, text, table, i, best)
 }
 
@@ -372,11 +460,9 @@ fn answer_object(
 {
     let name = offsets[k];
     let i = name + 3;
-    let kind = nodes::member(text, table, i, b"type");
     let down = nodes::member(text, table, i, b"children");
     let up = nodes::member(text, table, i, b"parents");
-    let group = fields::found_word(text, table, kind, b"CityObjectGroup");
-    let a = answer_list(
+    let a = answer_children(
         text,
         table,
         offsets,
@@ -386,11 +472,11 @@ fn answer_object(
         memo,
         parents,
         k,
-        group,
+        i,
         down,
         best,
     );
-    let b = answer_list(
+    let b = answer_parents(
         text,
         table,
         offsets,
@@ -400,11 +486,10 @@ fn answer_object(
         memo,
         children,
         k,
-        false,
         up,
         a,
     );
-    has_parent(text, table, i, kind, up, b)
+    has_parent(text, table, i, up, b)
 }
 
 // Rules 16 and 17 of all objects.

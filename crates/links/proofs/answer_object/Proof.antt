@@ -21,27 +21,20 @@ member-requires c κs = let p = c .before .before .before .before .before .befor
 member-requires-2 : tie.Need-member-requires-2
 member-requires-2 c κs = let p = c .before .before .before .before .before .before .before .before .pre in object-at (p .0) (p .2)
 
-member-requires-3 : tie.Need-member-requires-3
-member-requires-3 c κs = let p = c .before .before .before .before .before .before .before .before .before .before .pre in object-at (p .0) (p .2)
+answer-children-requires : tie.Need-answer-children-requires
+answer-children-requires c κs = let p = c .before .before .before .before .before .before .before .before .before .pre in (p .0, object-at (p .0) (p .2), sought-in (c .before .before .member .ensures) (object-at (p .0) (p .2)), p .2, p .1 .above, p .3)
 
-found-word-requires : tie.Need-found-word-requires
-found-word-requires c κs = let p = c .before .before .before .before .before .before .before .before .before .before .before .before .pre in (sought-in (c .before .before .before .before .before .member .ensures) (object-at (p .0) (p .2)), search sweeping)
-
-answer-list-requires : tie.Need-answer-list-requires
-answer-list-requires c κs = let p = c .before .before .before .before .before .before .before .before .before .before .before .before .before .pre in (p .0, sought-in (c .before .before .before .before .member2 .ensures) (object-at (p .0) (p .2)), p .2, p .1 .above, p .3)
-
-answer-list-requires-2 : tie.Need-answer-list-requires-2
-answer-list-requires-2 c κs = let p = c .before .before .before .before .before .before .before .before .before .before .before .before .before .before .pre in (p .0, sought-in (c .before .before .before .member3 .ensures) (object-at (p .0) (p .2)), p .2, p .1 .below, p .3)
+answer-parents-requires : tie.Need-answer-parents-requires
+answer-parents-requires c κs = let p = c .before .before .before .before .before .before .before .before .before .before .pre in (p .0, sought-in (c .before .member2 .ensures) (object-at (p .0) (p .2)), p .2, p .1 .below, p .3)
 
 has-parent-requires : tie.Need-has-parent-requires
 unfolding ascii
-has-parent-requires c κs = let p = c .before .before .before .before .before .before .before .before .before .before .before .before .before .before .before .pre in (object-at (p .0) (p .2), seeks-find "type" refl (c .before .before .before .before .before .before .before .before .member .ensures), seeks-find "parents" refl (c .before .before .before .before .member3 .ensures))
+has-parent-requires c κs = let p = c .before .before .before .before .before .before .before .before .before .before .before .pre in (object-at (p .0) (p .2), seeks-find "parents" refl (c .before .before .member2 .ensures))
 
 returns : tie.Need-returns
 unfolding ascii
 returns c =
-    object-opens (seeks-find "type" refl (c .before .before .before .before .before .before .before .before .before .member .ensures)) (seeks-find "children" refl (c .before .before .before .before .before .before .before .member2 .ensures)) (seeks-find "parents" refl (c .before .before .before .before .before .member3 .ensures)) (c .before .before .before .found-word .ensures) (c .before .before .before .before .before .before .before .before .before .before .before .before .before .before .before .before .pre .4) (c .before .before .before .before .before .before .before .before .before .before .before .before .before .before .before .before .pre .1) (c .before .before .before .before .before .before .before .before .before .before .before .before .before .before .before .before .pre .2)
-    (c .before .before .answer-list .ensures) (c .before .answer-list2 .ensures) (c .has-parent .ensures)
+    let p = c .before .before .before .before .before .before .before .before .before .before .before .before .pre in object-opens (seeks-find "children" refl (c .before .before .before .before .before .member .ensures)) (seeks-find "parents" refl (c .before .before .before .member2 .ensures)) (p .4) (p .1) (p .2) (c .before .before .answer-children .ensures) (c .before .answer-parents .ensures) (c .has-parent .ensures)
 
 pub answer-object-spec : {M : Type 1} → statement M
 answer-object-spec =
@@ -54,11 +47,7 @@ answer-object-spec =
     member-requires
     (λ c. search sweeping)
     member-requires-2
-    (λ c. search sweeping)
-    member-requires-3
-    (λ c. search sweeping)
-    found-word-requires
-    answer-list-requires
-    answer-list-requires-2
+    answer-children-requires
+    answer-parents-requires
     has-parent-requires
     returns)

@@ -5,16 +5,13 @@ use Rattle.links.proofs.has_parent.Statement.{statement}
 use Rattle.links.proofs.has_parent.Tie as tie
 
 count-found-requires : tie.Need-count-found-requires
-count-found-requires c κs = sought-in (c .before .before .pre .2) (c .before .before .pre .0)
+count-found-requires c κs = sought-in (c .before .before .pre .1) (c .before .before .pre .0)
 
 returns : tie.Need-returns
-returns c = parent-some _ (c .before .before .before .before .pre .2) (c .before .count-found .ensures) (c .if1 .taken)
-
-object-code-requires : tie.Need-object-code-requires
-object-code-requires c κs = sought-in (c .before .before .before .before .pre .1) (c .before .before .before .before .pre .0)
+returns c = parent-some _ (c .before .before .before .before .pre .1) (c .before .count-found .ensures) (c .if1 .taken)
 
 returns-2 : tie.Need-returns-2
-returns-2 c = parent-told _ (c .before .before .before .before .before .before .pre .2) (c .before .before .before .count-found .ensures) (c .before .before .if1 .left) (c .before .before .before .before .before .before .pre .1) (c .before .object-code .ensures) (c .unless .ensures)
+returns-2 c = parent-told _ (c .before .before .before .before .before .before .pre .1) (c .before .before .before .count-found .ensures) (c .before .before .if1 .left) (c .before .type-code .ensures) (c .unless .ensures)
 
 pub has-parent-spec : {M : Type 1} → statement M
 has-parent-spec =
@@ -22,6 +19,6 @@ has-parent-spec =
     (tie.spec
     count-found-requires
     returns
-    object-code-requires
+    (λ c κs. search sweeping)
     (λ c κs. search sweeping)
     returns-2)

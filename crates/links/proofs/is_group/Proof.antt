@@ -1,0 +1,22 @@
+-- `links::is_group` meets its contract. Assumes nothing.
+use mathlib.Core.Path.{refl}
+use Rattle.utf8.specs.Ascii.{ascii}
+use Rattle.shapes.specs.Laws.{seeks-find}
+use Rattle.links.proofs.Rules.{sweeping}
+use Rattle.links.proofs.Sweeps.{type-is}
+use Rattle.links.proofs.is_group.Statement.{statement}
+use Rattle.links.proofs.is_group.Tie as tie
+
+returns : tie.Need-returns
+unfolding ascii
+returns c = type-is (seeks-find "type" refl (c .before .before .member .ensures)) "CityObjectGroup" (c .found-word .ensures)
+
+pub is-group-spec : {M : Type 1} → statement M
+is-group-spec =
+    tie.close
+    (tie.spec
+    (λ c. search sweeping)
+    (λ c κs. search sweeping)
+    (λ c. search sweeping)
+    (λ c κs. search sweeping)
+    returns)
