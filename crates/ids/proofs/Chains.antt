@@ -13,8 +13,8 @@ use Rattle.utf8.specs.Utf8.{same}
 use Rattle.utf8.specs.Laws.{same-equal}
 use Rattle.strings.specs.Spans.{decodeAt}
 use Rattle.nodes.specs.Access.{Member, nameOf}
-use Rattle.nodes.specs.Chains.{chainOf}
-use Rattle.nodes.specs.Parts.{textAt}
+use Rattle.everywhere.specs.Chains.{chainOf}
+use Rattle.everywhere.specs.Parts.{textAt}
 use Rattle.model.specs.Model.{numberOf}
 use Rattle.ids.specs.Says.{TextNode, Offsets, Objects, namesOf, Numbers, headFrom, ChainsFrom, Chains, Puts}
 use Rattle.ids.proofs.Rules.{ids, name-text, nobody, object-text}

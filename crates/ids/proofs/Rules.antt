@@ -17,8 +17,8 @@ use Rattle.json.specs.Table.{Sub}
 use Rattle.json.specs.Laws.{words}
 use Rattle.nodes.specs.Access.{isStringValue, textOf, nameOf, Member}
 use Rattle.nodes.specs.Laws.{rawOf, string-at, text-at, quoted-at}
-use Rattle.nodes.specs.Parts.{textAt}
-use Rattle.nodes.proofs.Rule6.{zero-at}
+use Rattle.everywhere.specs.Parts.{textAt}
+use Rattle.everywhere.proofs.Rule6.{zero-at}
 use Rattle.nodes.specs.Says.{Node, Gives}
 use Rattle.fields.specs.Says.{MemberAt}
 use Rattle.ids.specs.Says.{TextNode, Objects, MemberNode}

@@ -6,9 +6,9 @@ use Prim.Native.Nat.{ℕ, _+_, _<_, _≤_}
 use lib.ListN.{length, getD, set, drop}
 use lib.Dec.{eqb}
 use Rattle.nodes.specs.Access.{Member, nameOf}
-use Rattle.nodes.specs.Chains.{chainOf}
+use Rattle.everywhere.specs.Chains.{chainOf}
 use Rattle.nodes.specs.Laws.{StringAt}
-use Rattle.nodes.specs.Parts.{textAt}
+use Rattle.everywhere.specs.Parts.{textAt}
 use Rattle.fields.specs.Says.{MemberAt}
 use Rattle.model.specs.Model.{numberOf}
 

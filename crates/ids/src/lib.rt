@@ -3,8 +3,8 @@ ghost use Prim.Native.Nat.{ℕ, _+_, _<_};
 ghost use mathlib.Core.Path.{_≡_};
 ghost use lib.ListN.{length, getD};
 ghost use Rattle.utf8.specs.Utf8 as utf8;
-ghost use Rattle.nodes.specs.Chains.{chainOf};
-ghost use Rattle.nodes.specs.Parts.{textAt};
+ghost use Rattle.everywhere.specs.Chains.{chainOf};
+ghost use Rattle.everywhere.specs.Parts.{textAt};
 ghost use Rattle.ids.specs.Says.{TextNode, Objects, Puts, Chains, Numbers};
 
 // Do the strings or names at two nodes stand for the same text?
@@ -33,7 +33,7 @@ fn chain_at(text: &[u8], table: &[u32], i: usize) -> usize
 {
     let from = nodes::start(table, i);
     let to = nodes::end(table, i);
-    nodes::chain_of(text, from + 1, to - 1)
+    everywhere::chain_of(text, from + 1, to - 1)
 }
 
 // Puts the object of number k, whose name stands at node `own`, at the head of its chain.

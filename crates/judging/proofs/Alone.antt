@@ -13,7 +13,7 @@ use Rattle.utf8.specs.Laws.{same-refl, never}
 use Rattle.strings.specs.Strings.{decode}
 use Rattle.json.specs.Tree.{Json, null, bool, num, str, arr, obj, Members, empty, member, Name}
 use Rattle.nodes.specs.Access.{Member, nameOf, pairs, members, firstNamed, find}
-use Rattle.nodes.specs.Everywhere.{among, repeated, rule6, rule6Of}
+use Rattle.everywhere.specs.Everywhere.{among, repeated, rule6, rule6Of}
 use Rattle.fields.specs.Fields.{membersIn, objectsOf}
 use Rattle.model.specs.Model.{numberOf}
 use Rattle.ids.specs.Says.{namesOf}

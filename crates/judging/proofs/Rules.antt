@@ -11,7 +11,7 @@ use Rattle.json.specs.Table.{Sub}
 use Rattle.json.specs.Parse.{Tells}
 use Rattle.json.specs.declared.Parsed.{Parsed}
 use Rattle.json.specs.declared.Parsed.the-variants as parse
-use Rattle.nodes.specs.Everywhere.{rule5, rule6}
+use Rattle.everywhere.specs.Everywhere.{rule5, rule6}
 use Rattle.nodes.specs.Faults.{fault, least, none}
 use Rattle.nodes.specs.Says.{Gives}
 use Rattle.fields.specs.Fields.{objectsOf}

@@ -11,7 +11,7 @@ use lib.ListN.{length, drop}
 use borrow.Author.Tests.{lt-ltb, le-ltb}
 use Rattle.json.specs.Tree.{Json}
 use Rattle.nodes.specs.Access.{members, Member, find}
-use Rattle.nodes.specs.Everywhere.{rule5, rule6}
+use Rattle.everywhere.specs.Everywhere.{rule5, rule6}
 use Rattle.nodes.specs.Faults.{fault, least, none, ruleOf, placeIn}
 use Rattle.nodes.specs.Laws.{least-++}
 use Rattle.shapes.specs.Checks.{all, on, at, needs, isObject}

@@ -81,8 +81,8 @@ pub fn examine(text: &[u8], table: &[u32], n: usize) -> Walked
     requires { ⌜ Stands (now text) (now table) n ⌝ }
     ensures { λ r. ⌜ Examined (now (text .entry)) (now (table .entry)) r ⌝ }
 {
-    let a = nodes::unpaired(text, table, n, 1179648);
-    let b = nodes::repeated(text, table, n, a);
+    let a = everywhere::unpaired(text, table, n, 1179648);
+    let b = everywhere::repeated(text, table, n, a);
     let walked = schema::root(text, table, b);
     let c = walked.least;
     if c < 1179648 {

@@ -11,7 +11,7 @@ use borrow.Author.Tests.{le-leb, lt-leb}
 use Rattle.json.specs.Tree.{Json}
 use Rattle.json.specs.Machine.{read, reads}
 use Rattle.json.specs.Table.{Sub}
-use Rattle.nodes.specs.Everywhere.{rule5, rule6}
+use Rattle.everywhere.specs.Everywhere.{rule5, rule6}
 use Rattle.nodes.specs.Faults.{fault, none}
 use Rattle.fields.specs.Fields.{objectsOf}
 use Rattle.schema.specs.Schema.{cityJson}

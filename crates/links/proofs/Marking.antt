@@ -14,10 +14,10 @@ use Rattle.json.specs.Tree.{Json}
 use Rattle.json.specs.Table.{Sub}
 use Rattle.model.specs.Model.{numberOf}
 use Rattle.nodes.specs.Access.{isStringValue, isArrayValue, textOf, nameOf, elements, Member, firstNamed}
-use Rattle.nodes.specs.Everywhere.{among}
+use Rattle.everywhere.specs.Everywhere.{among}
 use Rattle.nodes.specs.Faults.{least}
 use Rattle.nodes.specs.Laws.{no-elements, least-++}
-use Rattle.nodes.specs.Parts.{textAt}
+use Rattle.everywhere.specs.Parts.{textAt}
 use Rattle.nodes.specs.Says.{Node, Finds, Gives}
 use Rattle.nodes.specs.declared.Found.{Found}
 use Rattle.nodes.specs.declared.Found.the-variants.{At, Nothing}

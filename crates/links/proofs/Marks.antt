@@ -12,7 +12,7 @@ use Rattle.utf8.specs.Utf8.{same}
 use Rattle.utf8.specs.Laws.{same-equal, same-refl, never}
 use Rattle.model.specs.Model.{numberOf}
 use Rattle.nodes.specs.Access.{Member, nameOf, firstNamed}
-use Rattle.nodes.specs.Everywhere.{among}
+use Rattle.everywhere.specs.Everywhere.{among}
 use Rattle.shapes.specs.Checks.{isSome}
 use Rattle.links.specs.Passes.{marks}
 

@@ -14,7 +14,7 @@ use mir.Syntax.{w16, w64}
 use Rattle.utf8.specs.Utf8.{same}
 use Rattle.model.specs.Model.{numberOf}
 use Rattle.nodes.specs.Access.{Member}
-use Rattle.nodes.specs.Parts.{textAt}
+use Rattle.everywhere.specs.Parts.{textAt}
 use Rattle.ids.specs.Says.{Offsets, Numbers, namesOf}
 use Rattle.ids.proofs.Rules.{fresh-zero, fresh-length}
 use Rattle.ids.proofs.Chains.{names-all}

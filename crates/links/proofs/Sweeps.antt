@@ -21,7 +21,7 @@ use Rattle.model.specs.Model.{numberOf}
 use Rattle.nodes.specs.Access.{nameOf, elements, Member, find}
 use Rattle.nodes.specs.Faults.{least}
 use Rattle.nodes.specs.Laws.{least-++}
-use Rattle.nodes.specs.Parts.{textAt}
+use Rattle.everywhere.specs.Parts.{textAt}
 use Rattle.nodes.specs.Says.{Node, Seeks, Gives, GivesFound}
 use Rattle.nodes.specs.declared.Found.{Found}
 use Rattle.shapes.specs.Checks.{unless}

@@ -8,7 +8,7 @@ use mathlib.Core.Option as option
 use Rattle.words.specs.Words.{objectWords, codeOf, is, isSecondLevel}
 use Rattle.json.specs.Tree.{Json}
 use Rattle.nodes.specs.Access.{isStringValue, elements, Member, nameOf, textOf, find, firstNamed}
-use Rattle.nodes.specs.Everywhere.{among}
+use Rattle.everywhere.specs.Everywhere.{among}
 use Rattle.shapes.specs.Checks.{unless, isSome}
 use Rattle.fields.specs.Fields.{typeText, objectsOf}
 

@@ -9,7 +9,7 @@ use Rattle.words.specs.Words.{is}
 use Rattle.json.specs.Tree.{Json}
 use Rattle.model.specs.Model.{numberOf}
 use Rattle.nodes.specs.Access.{isStringValue, Member, nameOf, textOf, firstNamed}
-use Rattle.nodes.specs.Everywhere.{among}
+use Rattle.everywhere.specs.Everywhere.{among}
 use Rattle.shapes.specs.Checks.{unless, isSome}
 use Rattle.fields.specs.Fields.{typeText}
 use Rattle.links.specs.Links.{listedIn, idsAmong, idsIn, hasParent}

@@ -14,7 +14,7 @@ use Rattle.json.specs.Table.{Sub}
 use Rattle.model.specs.Model.{numberOf}
 use Rattle.nodes.specs.Access.{Member}
 use Rattle.nodes.specs.Faults.{least}
-use Rattle.nodes.specs.Parts.{textAt}
+use Rattle.everywhere.specs.Parts.{textAt}
 use Rattle.nodes.specs.Says.{Finds, Gives, GivesFound}
 use Rattle.nodes.specs.declared.Found.{Found}
 use Rattle.fields.specs.Fields.{typeText, objectsOf}

@@ -1,8 +1,3 @@
 -- What the proofs of several functions use.
 mod Firsts
 mod Loops
-mod Passes
-mod Rule5
-pub mod Rule6
-mod Hashes
-mod Links

@@ -10,35 +10,16 @@ use lib.ListN.{length, getD}
 use borrow.Author.Needs.{needs}
 use borrow.Author.Tests.{not-true, not-false}
 use Rattle.utf8.specs.Utf8.{same}
-use Rattle.strings.specs.Spans.{Span, decodeAt}
+use Rattle.strings.specs.Spans.{decodeAt}
 use Rattle.json.specs.Tree.{Json, Members}
-use Rattle.json.specs.Table.{widths, Sub, Fields}
+use Rattle.json.specs.Table.{Sub}
 use Rattle.json.specs.Laws.{words, sub-within, Left, Past, past, over, ended, MembersLeft, MemberPast, member-past, member-over, members-ended}
 use Rattle.nodes.specs.Access.{isArrayValue, isObjectValue, listed, elements, pairs, members, Member, nameOf, firstNamed}
 use Rattle.nodes.specs.Says.{Node, Gives, Finds, Seeks}
 use Rattle.nodes.specs.declared.Found.the-variants.{At, Nothing}
-use Rattle.nodes.specs.Laws.{StringAt, quoted-at, elements-begin, fields-begin, no-elements, no-members}
+use Rattle.nodes.specs.Laws.{quoted-at, elements-begin, fields-begin, no-elements, no-members}
+use Rattle.nodes.specs.Walks.{Walk, walk-of, walk-first, walk-second, walk-room, walk-some, walk-span, walk-less, walk-on}
 use Rattle.nodes.proofs.Firsts.{node-room, node-first, node-inside}
-
--- a string at a node, as the code reads it
-module _ {x t : List ℕ} {k : ℕ} {raw : List ℕ} (s : StringAt x t k raw) where
-  pub string-first : k < length t
-  string-first = omega (arith, s .room)
-
-  pub string-second : k + 1 < length t
-  string-second = omega (arith, s .room)
-
-  pub string-some : {e : ℕ} → e ≡ getD t (k + 1) 0 → 1 ≤ e
-  string-some q = rw q (s .some)
-
-  pub string-fits : {p : ℕ} → p ≡ getD t k 0 → p + 1 ≤ length x
-  string-fits q = rw q (s .fits)
-
-  pub string-span : {p e : ℕ} → p ≡ getD t k 0 → e ≡ getD t (k + 1) 0 → Span x (p + 1) (e - 1)
-  string-span q r = rw (q, r) (s .span)
-
-  pub string-low : {p : ℕ} → length x ≤ 65535 → p ≡ getD t k 0 → p ≤ 65535
-  string-low h q = omega (arith, s .fits)
 
 -- Counting: of the elements of the array at i, `found` stand before k
 pub record Counts (x t : List ℕ) (i n k found : ℕ) : Type 0 where
@@ -78,46 +59,6 @@ module _ {x t : List ℕ} {i : ℕ} where
     pub count-done : n ≤ k → Gives (λ v. length (elements v)) x t i found
     unfolding listed
     count-done h = record { is = λ v s. let e = ended (c .left v s) h in omega arith }
-
--- Loops over members: the words from k up to n are those of some members
-pub record Walk (x t : List ℕ) (n k : ℕ) : Type 0 where
-  pub members : Members
-  pub stand : Fields x t k members
-  pub ends : k + widths members ≡ n
-
-pub walk-of : {x t : List ℕ} {n k : ℕ} {P : Members → Type 0} → MembersLeft x t k n P → Walk x t n k
-walk-of l = record { members = l .members; stand = l .stand; ends = l .ends }
-
-module _ {x t : List ℕ} {n k : ℕ} (c : Walk x t n k) where
-  walk-past : k < n → MemberPast x t k n (λ ms. Unit)
-  walk-past l = member-past (record { members = c .members; stand = c .stand; ends = c .ends; holds = tt }) l
-
-  walk-string : (l : k < n) → StringAt x t k (walk-past l .key .raw)
-  walk-string l = quoted-at (walk-past l .quoted)
-
-  pub walk-first : k < n → k < length t
-  walk-first l = string-first (walk-string l)
-
-  pub walk-second : k < n → k + 1 < length t
-  walk-second l = string-second (walk-string l)
-
-  pub walk-room : k < n → k + 3 + 2 < length t
-  walk-room l = walk-past l .word .room
-
-  pub walk-some : {e : ℕ} → k < n → e ≡ getD t (k + 1) 0 → 1 ≤ e
-  walk-some l q = string-some (walk-string l) q
-
-  pub walk-fits : {p : ℕ} → k < n → p ≡ getD t k 0 → p + 1 ≤ length x
-  walk-fits l q = string-fits (walk-string l) q
-
-  pub walk-span : {p e : ℕ} → k < n → p ≡ getD t k 0 → e ≡ getD t (k + 1) 0 → Span x (p + 1) (e - 1)
-  walk-span l q r = string-span (walk-string l) q r
-
-  pub walk-less : {m : ℕ} → k < n → m ≡ getD t (k + 3 + 2) 0 → n - m < n - k
-  walk-less l q = let u = walk-past l in omega (arith, u .more, u .within)
-
-  pub walk-on : {m : ℕ} → k < n → m ≡ getD t (k + 3 + 2) 0 → Walk x t n m
-  walk-on l q = let u = walk-past l in record { members = u .others; stand = rw q (u .then); ends = omega (arith, u .ends) }
 
 -- Searching: the first member of that name is the first of those from k on
 pub record Searches (x t : List ℕ) (i : ℕ) (name : List ℕ) (n k : ℕ) : Type 0 where

@@ -7,7 +7,7 @@ use lib.ListN.{length, getD}
 use Rattle.json.specs.Tree.{Json}
 use Rattle.nodes.specs.Access.{Member, isArrayValue, textOf}
 use Rattle.nodes.specs.Laws.{rawOf, string-at, text-at}
-use Rattle.nodes.specs.Parts.{textAt}
+use Rattle.everywhere.specs.Parts.{textAt}
 use Rattle.nodes.specs.Says.{Sought, Gives}
 use Rattle.nodes.specs.declared.Found.{Found}
 use Rattle.nodes.specs.declared.Found.the-variants.{At, Nothing}

@@ -10,7 +10,7 @@ use Rattle.strings.specs.Spans.{decodeAt}
 use Rattle.words.specs.Words.{objectWords, codeOf}
 use Rattle.json.specs.Tree.{Json}
 use Rattle.nodes.specs.Access.{isArrayValue, elements, find}
-use Rattle.nodes.specs.Parts.{textAt}
+use Rattle.everywhere.specs.Parts.{textAt}
 use Rattle.nodes.specs.Says.{Node, Sought, Seeks, Finds, Gives, GivesFound}
 use Rattle.nodes.specs.declared.Found.{Found}
 use Rattle.nodes.specs.declared.Found.the-variants.{At, Nothing}

@@ -17,7 +17,7 @@ use Rattle.words.specs.Laws.{one-has-code, code-most}
 use Rattle.json.specs.Machine.{isDigit}
 use Rattle.json.specs.Tree.{Json, null}
 use Rattle.nodes.specs.Access.{isStringValue, elements, members, Member, nameOf, textOf, find, firstNamed}
-use Rattle.nodes.specs.Everywhere.{among, rule5, rule6}
+use Rattle.everywhere.specs.Everywhere.{among, rule5, rule6}
 use Rattle.nodes.specs.Faults.{fault}
 use Rattle.fields.specs.Fields.{typeText, countIn}
 use Rattle.shapes.specs.Checks.{Check, all, on, at, forEach, values, eachMember, isObject, isString, isArray, isSome, needs, text}

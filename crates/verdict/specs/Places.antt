@@ -18,7 +18,7 @@ use Rattle.grammar.specs.Order as order
 use Rattle.strings.specs.Strings.{decode, unpairedFrom}
 use Rattle.strings.specs.Laws.{unpaired-within}
 use Rattle.nodes.specs.Access.{isNullValue, isNumberValue, isStringValue, isArrayValue, isObjectValue, textOf, numeralOf, listed, elements, pairs, members, Member, nameOf, firstNamed, find}
-use Rattle.nodes.specs.Everywhere.{strings, stringsIn, stringsOf, unpairedIn, rule5, among, repeated, rule6, rule6In, rule6Of}
+use Rattle.everywhere.specs.Everywhere.{strings, stringsIn, stringsOf, unpairedIn, rule5, among, repeated, rule6, rule6In, rule6Of}
 use Rattle.nodes.specs.Faults.{fault, none}
 use Rattle.shapes.specs.Checks.{Check, unless, all, on, at, forEach, each, values, eachMember, isObject, isString, isNumber, isArray, isSome, needs, text, numeral}
 use Rattle.numerals.specs.Numerals.{integer, pairOf, fits32, isBelow}

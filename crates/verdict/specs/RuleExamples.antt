@@ -7,7 +7,7 @@ use lib.ListN.{length}
 use Rattle.utf8.specs.Ascii.{ascii}
 use Rattle.json.specs.Tree.{Json, num, str, arr, obj, none, _▸_, Members, empty, member, Name}
 use Rattle.json.specs.Machine.{reads, read}
-use Rattle.nodes.specs.Everywhere.{rule5}
+use Rattle.everywhere.specs.Everywhere.{rule5}
 use Rattle.nodes.specs.Faults.{fault, least, none as top}
 use Rattle.fields.specs.Fields.{objectsOf}
 use Rattle.schema.specs.Schema.{cityJson}

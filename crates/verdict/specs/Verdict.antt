@@ -7,7 +7,7 @@ use lib.Dec.{ltb}
 use Rattle.utf8.specs.Utf8.{wholeLength}
 use Rattle.json.specs.Tree.{Json}
 use Rattle.json.specs.Machine.{Outcome, reads, bad, tooDeep, read}
-use Rattle.nodes.specs.Everywhere.{rule5, rule6}
+use Rattle.everywhere.specs.Everywhere.{rule5, rule6}
 use Rattle.nodes.specs.Faults.{fault, ruleOf, placeIn, least, none}
 use Rattle.fields.specs.Fields.{objectsOf}
 use Rattle.schema.specs.Schema.{cityJson}

@@ -2,7 +2,8 @@
 use Prim.Native.Nat.{_-_}
 use native.Mathlib.Omega.{arith}
 use Rattle.nodes.proofs.Firsts.{node-room}
-use Rattle.nodes.proofs.Loops.{Searches, member-none, member-found, member-done, walk-fits, walk-room, loops}
+use Rattle.nodes.specs.Walks.{walk-fits, walk-room}
+use Rattle.nodes.proofs.Loops.{Searches, member-none, member-found, member-done, loops}
 use Rattle.nodes.proofs.member.Statement.{statement}
 use Rattle.nodes.proofs.member.Tie as tie
 

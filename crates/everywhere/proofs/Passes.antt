@@ -1,0 +1,213 @@
+-- Passes over all nodes of a table, in the text's order: the faults of a tree are those of its parts, one after the other. Assumes nothing.
+use Prim.Native.Nat.{ℕ, _+_, _-_, _*_, _≤_, _<_}
+use mathlib.Core.Path.{_≡_, refl, sym, ap, _∙_}
+use mathlib.Core.Bool.{Bool, true, false, not}
+use mathlib.Core.List.{List, [], _∷_, _++_, map, map-append, append-assoc, flatMap}
+use native.Mathlib.Omega.{arith}
+use lib.ListN.{length, length-append}
+use borrow.Author.Tests.{not-true}
+use Rattle.strings.specs.Strings.{unpairedFrom}
+use Rattle.strings.specs.Spans.{hasByte}
+use Rattle.strings.specs.Laws.{none-slice, unpaired-plain}
+use Rattle.json.specs.Tree.{Json, Items, _▸_, Members, member, Name}
+use Rattle.json.specs.Tree as tree
+use Rattle.json.specs.Table.{size, sizes, widths, Sub, null, bool, num, str, arr, obj, Subs, nil, cons, Fields, last, field}
+use Rattle.json.specs.Laws.{words}
+use Rattle.nodes.specs.Faults.{fault, least}
+use Rattle.everywhere.specs.Everywhere.{strings, unpairedIn, rule5, repeated, rule6, rule6In, rule6Of, stringsIn, stringsOf}
+use Rattle.nodes.specs.Says.{Root, Gives}
+use Rattle.nodes.specs.Laws.{least-++, fieldsOf}
+use Rattle.everywhere.specs.Parts.{Part, value, name, Stands, of-value, of-name, own5, own6, AnyPart, PartGives}
+
+-- the parts of a value, of elements and of members, in the text's order
+unfoldable mutual
+  pub parts : Json → List Part
+  parts (tree.null p e) = value (tree.null p e) ∷ []
+  parts (tree.bool p e b) = value (tree.bool p e b) ∷ []
+  parts (tree.num p e raw) = value (tree.num p e raw) ∷ []
+  parts (tree.str p e raw) = value (tree.str p e raw) ∷ []
+  parts (tree.arr p e vs) = value (tree.arr p e vs) ∷ partsIn vs
+  parts (tree.obj p e ms) = value (tree.obj p e ms) ∷ partsOf ms
+
+  pub partsIn : Items → List Part
+  partsIn tree.none = []
+  partsIn (v ▸ vs) = parts v ++ partsIn vs
+
+  pub partsOf : Members → List Part
+  partsOf tree.empty = []
+  partsOf (member k v ms) = name k ∷ (parts v ++ partsOf ms)
+
+flat-++ : (f : Part → List ℕ) (ds es : List Part) → flatMap f (ds ++ es) ≡ flatMap f ds ++ flatMap f es
+unfolding flatMap
+flat-++ f [] es = refl
+flat-++ f (d ∷ ds) es = ap (λ (l : List ℕ). f d ++ l) (flat-++ f ds es) ∙ sym (append-assoc (f d) (flatMap f ds) (flatMap f es))
+
+unpaired-++ : (ss ts : List Name) → unpairedIn (ss ++ ts) ≡ unpairedIn ss ++ unpairedIn ts
+unfolding unpairedIn
+unpaired-++ [] ts = refl
+unpaired-++ (s ∷ ss) ts = ap (λ (l : List ℕ). unpairedFrom (s .place + 1) (s .raw) ++ l) (unpaired-++ ss ts) ∙ sym (append-assoc (unpairedFrom (s .place + 1) (s .raw)) (unpairedIn ss) (unpairedIn ts))
+
+-- rule 5 part by part
+mutual
+  unfolding strings unpairedIn own5 parts flatMap
+
+  unpaired-parts : (v : Json) → unpairedIn (strings v) ≡ flatMap own5 (parts v)
+  unpaired-parts (tree.null p e) = refl
+  unpaired-parts (tree.bool p e b) = refl
+  unpaired-parts (tree.num p e raw) = refl
+  unpaired-parts (tree.str p e raw) = refl
+  unpaired-parts (tree.arr p e vs) = unpaired-items vs
+  unpaired-parts (tree.obj p e ms) = unpaired-members ms
+
+  unpaired-items : (vs : Items) → unpairedIn (stringsIn vs) ≡ flatMap own5 (partsIn vs)
+  unpaired-items tree.none = refl
+  unpaired-items (v ▸ vs) = rw (unpaired-++, flat-++, unpaired-parts v, unpaired-items vs)
+
+  unpaired-members : (ms : Members) → unpairedIn (stringsOf ms) ≡ flatMap own5 (partsOf ms)
+  unpaired-members tree.empty = refl
+  unpaired-members (member k v ms) = rw (unpaired-++, flat-++, unpaired-parts v, unpaired-members ms)
+
+pub rule5-parts : (v : Json) → rule5 v ≡ flatMap own5 (parts v)
+unfolding rule5
+rule5-parts v = unpaired-parts v
+
+-- rule 6 part by part
+mutual
+  unfolding rule6 repeated own6 fieldsOf parts flatMap
+
+  pub rule6-parts : (v : Json) → rule6 v ≡ flatMap own6 (parts v)
+  rule6-parts (tree.null p e) = refl
+  rule6-parts (tree.bool p e b) = refl
+  rule6-parts (tree.num p e raw) = refl
+  rule6-parts (tree.str p e raw) = refl
+  rule6-parts (tree.arr p e vs) = rule6-items vs
+  rule6-parts (tree.obj p e ms) = ap (λ (l : List ℕ). repeated [] ms ++ l) (rule6-members ms)
+
+  rule6-items : (vs : Items) → rule6In vs ≡ flatMap own6 (partsIn vs)
+  rule6-items tree.none = refl
+  rule6-items (v ▸ vs) = rw (flat-++, rule6-parts v, rule6-items vs)
+
+  rule6-members : (ms : Members) → rule6Of ms ≡ flatMap own6 (partsOf ms)
+  rule6-members tree.empty = refl
+  rule6-members (member k v ms) = rw (flat-++, rule6-parts v, rule6-members ms)
+
+-- three words a part
+mutual
+  unfolding parts size
+
+  parts-size : (v : Json) → 3 * length (parts v) ≡ size v
+  parts-size (tree.null p e) = refl
+  parts-size (tree.bool p e b) = refl
+  parts-size (tree.num p e raw) = refl
+  parts-size (tree.str p e raw) = refl
+  parts-size (tree.arr p e vs) = omega (arith, items-size vs)
+  parts-size (tree.obj p e ms) = omega (arith, members-size ms)
+
+  items-size : (vs : Items) → 3 * length (partsIn vs) ≡ sizes vs
+  items-size tree.none = refl
+  items-size (v ▸ vs) = omega (arith, length-append (parts v) (partsIn vs), parts-size v, items-size vs)
+
+  members-size : (ms : Members) → 3 * length (partsOf ms) ≡ widths ms
+  members-size tree.empty = refl
+  members-size (member k v ms) = omega (arith, length-append (parts v) (partsOf ms), parts-size v, members-size ms)
+
+-- the words from i on are those of the parts ds
+data Row (x t : List ℕ) : ℕ → List Part → Type 0 where
+  none : {i : ℕ} → Row x t i []
+  some : {i : ℕ} {d : Part} {ds : List Part} → Stands x t i d → Row x t (i + 3) ds → Row x t i (d ∷ ds)
+
+row-++ : {x t : List ℕ} {i : ℕ} {ds : List Part} (n : ℕ) (es : List Part) → Row x t i ds → i + 3 * length ds ≡ n → Row x t n es → Row x t i (ds ++ es)
+row-++ {i = i} n es none e r = let z : i ≡ n = omega arith in rw z r
+row-++ n es (some {ds = ds} s r′) e r = some s (row-++ n es r′ (omega arith) r)
+
+module _ {x t : List ℕ} where
+  mutual
+    unfolding parts size
+
+    row : {i : ℕ} {v : Json} → Sub x t i v → Row x t i (parts v)
+    row (null w) = some (of-value (null w)) none
+    row (bool w) = some (of-value (bool w)) none
+    row (num w n r) = some (of-value (num w n r)) none
+    row (str q) = some (of-value (str q)) none
+    row (arr w vs) = some (of-value (arr w vs)) (item-row vs)
+    row (obj w ms) = some (of-value (obj w ms)) (member-row ms)
+
+    item-row : {i : ℕ} {vs : Items} → Subs x t i vs → Row x t i (partsIn vs)
+    item-row nil = none
+    item-row (cons {v = v} {vs = vs} s ss) = row-++ _ (partsIn vs) (row s) (omega (arith, parts-size v)) (item-row ss)
+
+    member-row : {i : ℕ} {ms : Members} → Fields x t i ms → Row x t i (partsOf ms)
+    member-row last = none
+    member-row (field {v = v} {ms = ms} q s fs) = some (of-name q) (row-++ _ (partsOf ms) (row s) (omega (arith, parts-size v)) (member-row fs))
+
+-- where the text has no backslash, no part breaks rule 5
+module _ {x t : List ℕ} (h : hasByte 92 x ≡ false) where
+  plain-part : {i : ℕ} {d : Part} → Stands x t i d → own5 d ≡ []
+  unfolding own5
+  plain-part (of-value (null w)) = refl
+  plain-part (of-value (bool w)) = refl
+  plain-part (of-value (num w n r)) = refl
+  plain-part (of-value (str {p = p} {e = e} q)) = rw (q .between) (unpaired-plain (p + 1) _ (none-slice 92 (p + 1) (e - 1) x h))
+  plain-part (of-value (arr w vs)) = refl
+  plain-part (of-value (obj w ms)) = refl
+  plain-part (of-name {k = k} q) = rw (q .between) (unpaired-plain (k .place + 1) _ (none-slice 92 (k .place + 1) (k .end - 1) x h))
+
+  plain-row : {i : ℕ} {ds : List Part} → Row x t i ds → flatMap own5 ds ≡ []
+  unfolding flatMap
+  plain-row none = refl
+  plain-row (some s r) = rw (plain-part s, plain-row r)
+
+pub rule5-clear : {x t : List ℕ} (b : ℕ) {r : Bool} → r ≡ hasByte 92 x → not r ≡ true → Gives (λ v. least b (map (fault 5) (rule5 v))) x t 0 b
+unfolding least
+rule5-clear b {r} q n = record { is = λ v s. rw (rule5-parts v, plain-row (sym q ∙ not-true r n) (row s)) }
+
+-- what a pass knows where it has come to the node k: the words from k up to n are those of the parts that are left, whose faults with b have the least `all`
+record Left (rule : ℕ) (own : Part → List ℕ) (x t : List ℕ) (n k b all : ℕ) : Type 0 where
+  left : List Part
+  stand : Row x t k left
+  ends : k + 3 * length left ≡ n
+  holds : least b (map (fault rule) (flatMap own left)) ≡ all
+
+-- the same of every value that stands at the node 0, where the pass began with b₀
+pub record Pass (rule : ℕ) (own : Part → List ℕ) (x t : List ℕ) (n b₀ k b : ℕ) : Type 0 where
+  pub root : Root x t n
+  left : (v : Json) → Sub x t 0 v → Left rule own x t n k b (least b₀ (map (fault rule) (flatMap own (parts v))))
+
+-- in a turn: the part at k, and the others
+record Turn (rule : ℕ) (own : Part → List ℕ) (x t : List ℕ) (n k b all : ℕ) : Type 0 where
+  part : Part
+  others : List Part
+  stands : Stands x t k part
+  then : Row x t (k + 3) others
+  ends : (k + 3) + 3 * length others ≡ n
+  holds : least (least b (map (fault rule) (own part))) (map (fault rule) (flatMap own others)) ≡ all
+
+turn : {rule : ℕ} {own : Part → List ℕ} {x t : List ℕ} {n k b all : ℕ} → Left rule own x t n k b all → k < n → Turn rule own x t n k b all
+unfolding flatMap
+turn {rule} {own} {x} {t} {n} {k} {b} {all} l h = go (l .stand) (l .ends) (l .holds)
+  where
+    go : {ds : List Part} → Row x t k ds → k + 3 * length ds ≡ n → least b (map (fault rule) (flatMap own ds)) ≡ all → Turn rule own x t n k b all
+    go none e p = absurd (omega arith)
+    go (some {d = d} {ds = ds} s r) e p =
+        record { part = d; others = ds; stands = s; then = r; ends = omega arith; holds = sym (least-++ b (map (fault rule) (own d)) (map (fault rule) (flatMap own ds))) ∙ (ap (least b) (sym (map-append (fault rule) (own d) (flatMap own ds))) ∙ p) }
+
+finished : {rule : ℕ} {own : Part → List ℕ} {x t : List ℕ} {n k b all : ℕ} → Left rule own x t n k b all → n ≤ k → b ≡ all
+unfolding flatMap least
+finished {rule} {own} {x} {t} {n} {k} {b} {all} l h = go (l .left) (l .ends) (l .holds)
+  where
+    go : (ds : List Part) → k + 3 * length ds ≡ n → least b (map (fault rule) (flatMap own ds)) ≡ all → b ≡ all
+    go [] e p = p
+    go (d ∷ ds) e p = absurd (omega arith)
+
+pub pass-begin : (rule : ℕ) (own : Part → List ℕ) {x t : List ℕ} {n : ℕ} (b : ℕ) → Root x t n → Pass rule own x t n b 0 b
+pass-begin rule own b d = record { root = d; left = λ v s. record { left = parts v; stand = row s; ends = omega (arith, parts-size v, words s .next, words (d .stands) .next, d .ends); holds = refl } }
+
+module _ {rule : ℕ} {own : Part → List ℕ} {x t : List ℕ} {n b₀ k b : ℕ} (c : Pass rule own x t n b₀ k b) where
+  pub pass-part : k < n → AnyPart x t k
+  pass-part l = let u = turn (c .left (c .root .value) (c .root .stands)) l in record { part = u .part; stands = u .stands; short = c .root .short }
+
+  pub pass-again : {r : ℕ} → k < n → PartGives rule own x t k b r → Pass rule own x t n b₀ (k + 3) r
+  pass-again l g = record { root = c .root; left = λ v s. let u = turn (c .left v s) l in record { left = u .others; stand = u .then; ends = u .ends; holds = rw (g .is (u .part) (u .stands)) (u .holds) } }
+
+  pub pass-done : n ≤ k → (v : Json) → Sub x t 0 v → b ≡ least b₀ (map (fault rule) (flatMap own (parts v)))
+  pass-done h v s = finished (c .left v s) h

@@ -1,0 +1,47 @@
+-- `everywhere::repeated_in` meets its contract. Assumes nothing.
+use Prim.Native.Nat.{_-_, _≤_}
+use mathlib.Core.Path.{_≡_}
+use native.Mathlib.Omega.{arith}
+use lib.ListN.{length}
+use Rattle.nodes.specs.Walks.{walk-room}
+use Rattle.everywhere.proofs.Rule5.{any-third}
+use Rattle.everywhere.proofs.Rule6.{Sweeps, Any, sweeps}
+use Rattle.everywhere.proofs.repeated_in.Statement.{statement}
+use Rattle.everywhere.proofs.repeated_in.Tie as tie
+
+abbrev Inv-loop : tie.InvT-loop
+Inv-loop text table links₀ i best at n first least₀ seen₀ k₀ links least seen k = (Sweeps text table i first n best k least Any) × (length links ≡ 32784) × (seen ≤ k)
+
+abbrev μ-loop : tie.MeasureT-loop
+μ-loop text table links₀ i best at n first least₀ seen₀ k₀ links least seen k = n - k
+
+add-first : tie.Need-add-first Inv-loop μ-loop
+add-first c = omega (arith, any-third (c .before .before .before .before .before .before .pre .0))
+
+add-seen : tie.Need-add-seen Inv-loop μ-loop
+add-seen c = let i = c .before .before .before .loop .inv in omega (arith, walk-room (i .0 .walk) (c .before .before .loop-test .taken), i .2)
+
+add-next : tie.Need-add-next Inv-loop μ-loop
+add-next c = omega (arith, walk-room (c .before .before .before .loop .inv .0 .walk) (c .before .before .loop-test .taken))
+
+pub repeated-in-spec : {M : Type 1} → statement M
+repeated-in-spec =
+    tie.close
+    (tie.spec
+    Inv-loop
+    μ-loop
+    (λ c κs. search sweeps)
+    (λ c. search sweeps)
+    (λ c. search sweeps)
+    (λ c κs. search sweeps)
+    add-first
+    (λ c. search sweeps)
+    (λ c κs. search sweeps)
+    (λ c. search sweeps)
+    (λ c κs. search sweeps)
+    add-seen
+    add-next
+    (λ c κs. walk-room (c .before .before .before .loop .inv .0 .walk) (c .before .before .loop-test .taken))
+    (λ c. search sweeps)
+    (λ c. search sweeps)
+    (λ c. search sweeps))

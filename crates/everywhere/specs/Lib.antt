@@ -1,0 +1,5 @@
+-- The rules that hold in every part of a text (5 and 6).
+pub mod Everywhere
+pub mod Examples
+pub mod Parts
+pub mod Chains

@@ -1,0 +1,265 @@
+// Rules 5 and 6, which hold in every part of a text, over the nodes of its table.
+// Each function that looks for faults takes the least so far and gives the least.
+ghost use Prim.Native.Nat.{_+_, _*_, _/_, _%_, _<_};
+ghost use mathlib.Core.List.{map};
+ghost use mathlib.Core.Path.{_≡_};
+ghost use lib.ListN.{length, getD};
+ghost use Rattle.nodes.specs.Faults.{fault, least};
+ghost use Rattle.everywhere.specs.Everywhere.{rule5, rule6};
+ghost use Rattle.nodes.specs.Says.{Root, Gives};
+ghost use Rattle.everywhere.specs.Parts.{AnyPart, PartGives, own5, own6, NameNode, Repeats, RepeatGives};
+ghost use Rattle.everywhere.specs.Chains.{hashFrom, chainOf, ChainNode, InChain, ChainAt, ChainGives, LongObject};
+ghost use Rattle.strings.specs.Spans.{Span, decodeAt, ahead};
+
+// A word of the table.
+fn wide(w: u32) -> usize
+    ensures { λ r. ⌜ r ≡ w ⌝ }
+{
+    w as usize
+}
+
+// Rule 5 at a node, if a string or a name stands there: an unpaired surrogate escape, at its backslash.
+fn unpaired_at(text: &[u8], table: &[u32], i: usize, best: u32) -> u32
+    requires { ⌜ AnyPart (now text) (now table) i ⌝ }
+    ensures { λ r. ⌜ PartGives 5 own5 (now (text .entry)) (now (table .entry)) i best r ⌝ }
+{
+    let from = nodes::start(table, i);
+    if text[from] != b'"' {
+        return best;
+    }
+    let to = nodes::end(table, i);
+    let found = strings::first_unpaired(text, from + 1, to - 1);
+    match found {
+        strings::Found::At(p) => nodes::lesser(best, nodes::fault_at(5, p)),
+        strings::Found::Nothing => best,
+    }
+}
+
+// Rule 5 in the tree whose table has n words. A text with no backslash has no escape.
+pub fn unpaired(text: &[u8], table: &[u32], n: usize, best: u32) -> u32
+    requires { ⌜ Root (now text) (now table) n ⌝ }
+    ensures { λ r. ⌜ Gives (λ v. least best (map (fault 5) (rule5 v))) (now (text .entry)) (now (table .entry)) 0 r ⌝ }
+{
+    if !strings::has_escape(text) {
+        return best;
+    }
+    let mut least = best;
+    let mut k = 0;
+    while k < n {
+        least = unpaired_at(text, table, k, least);
+        k += 3;
+    }
+    least
+}
+
+// Does the name at node k repeat one of those from the node `first` on that stand before it?
+fn repeats(text: &[u8], table: &[u32], first: usize, k: usize) -> bool
+    requires { ⌜ NameNode (now text) (now table) first k ⌝ }
+    ensures { λ r. ⌜ Repeats (now (text .entry)) (now (table .entry)) first k r ⌝ }
+{
+    let from = nodes::start(table, k);
+    let to = nodes::end(table, k);
+    let mut j = first;
+    while j < k {
+        let from2 = nodes::start(table, j);
+        let to2 = nodes::end(table, j);
+        if !strings::apart(text, from2 + 1, to2 - 1, from + 1, to - 1) {
+            if strings::same_string(text, from2 + 1, to2 - 1, from + 1, to - 1) {
+                return true;
+            }
+        }
+        j = nodes::next(table, j + 3);
+    }
+    false
+}
+
+// Rule 6 at the name at node k: it repeats an earlier one, at the later name.
+fn repeat_at(text: &[u8], table: &[u32], first: usize, k: usize, best: u32) -> u32
+    requires { ⌜ NameNode (now text) (now table) first k ⌝ }
+    ensures { λ r. ⌜ RepeatGives (now (text .entry)) (now (table .entry)) first k best r ⌝ }
+{
+    if !repeats(text, table, first, k) {
+        return best;
+    }
+    let place = nodes::start(table, k);
+    nodes::lesser(best, nodes::fault_at(6, place))
+}
+
+// A byte as a wider number.
+fn wide_byte(b: u8) -> u32
+    ensures { λ r. ⌜ r ≡ b ⌝ }
+{
+    b as u32
+}
+
+// The number of some bytes, with one byte more.
+fn mixed(h: u32, b: u8) -> u32
+    requires { ⌜ h < 67108864 ⌝ }
+    ensures { λ r. ⌜ (r ≡ (h * 59 + b) % 67108864) × (r < 67108864) ⌝ }
+{
+    (h * 59 + wide_byte(b)) % 67108864
+}
+
+// The number of the bytes that the cursor has ahead, where those before have the number `seed`.
+fn hash_ahead(text: &[u8], from: strings::Cursor, seed: u32) -> u32
+    requires { ⌜ (Span (now text) (from .at) (from .end)) × (seed < 67108864) ⌝ }
+    ensures { λ r. ⌜ r ≡ hashFrom seed (ahead (now (text .entry)) from) ⌝ }
+{
+    let mut c = from;
+    let mut h = seed;
+    loop {
+        let s = strings::next(text, c);
+        let strings::Step::Byte(b, d) = s else {
+            return h;
+        };
+        h = mixed(h, b);
+        c = d;
+    }
+}
+
+// The number of the bytes that a string stands for.
+fn hash(text: &[u8], at: usize, end: usize) -> u32
+    requires { ⌜ Span (now text) at end ⌝ }
+    ensures { λ r. ⌜ r ≡ hashFrom 0 (decodeAt (now (text .entry)) at end) ⌝ }
+{
+    let mut i = at;
+    let mut h = 0;
+    while i < end {
+        let b = text[i];
+        if b == b'\\' {
+            return hash_ahead(
+                text,
+                strings::Cursor {
+                    at: i,
+                    end: end,
+                    word: 0,
+                    left: 0,
+                },
+                h,
+            );
+        }
+        h = mixed(h, b);
+        i += 1;
+    }
+    h
+}
+
+// The chain that a string goes to, of 4,096.
+pub fn chain_of(text: &[u8], at: usize, end: usize) -> usize
+    requires { ⌜ Span (now text) at end ⌝ }
+    ensures { λ r. ⌜ (r ≡ chainOf (decodeAt (now (text .entry)) at end)) × (r < 4096) ⌝ }
+{
+    let h = hash(text, at, end);
+    wide(h % 4096)
+}
+
+// The name before the one at node e in its chain, or 0 if there is none.
+fn link(links: &[u32; 32784], e: usize) -> usize
+    requires { ⌜ e < 98352 ⌝ }
+    ensures { λ r. ⌜ r ≡ getD (now (links .entry)) (e / 3) 0 ⌝ }
+{
+    wide(links[e / 3])
+}
+
+// Does the name at node k repeat one of the chain that begins with the name at node `head`?
+fn in_chain(text: &[u8], table: &[u32], links: &[u32; 32784], head: usize, k: usize) -> bool
+    requires { ⌜ ChainNode (now text) (now table) (now links) head k ⌝ }
+    ensures { λ r. ⌜ InChain (now (text .entry)) (now (table .entry)) (now (links .entry)) head k r ⌝ }
+{
+    let from = nodes::start(table, k);
+    let to = nodes::end(table, k);
+    let mut e = head;
+    while e != 0 {
+        let from2 = nodes::start(table, e);
+        let to2 = nodes::end(table, e);
+        if strings::same_string(text, from2 + 1, to2 - 1, from + 1, to - 1) {
+            return true;
+        }
+        e = link(links, e);
+    }
+    false
+}
+
+// Rule 6 at the name at node k, which is then the head of its chain.
+fn chain_at(
+    text: &[u8],
+    table: &[u32],
+    links: &mut [u32; 32784],
+    heads: &mut [u32; 4096],
+    k: usize,
+    best: u32,
+) -> u32
+    requires { ⌜ ChainAt (now text) (now table) (now links) (now heads) k ⌝ }
+    ensures { λ r. ⌜ ChainGives (now (text .entry)) (now (table .entry)) (now (links .entry)) (now (heads .entry)) (now (links .exit)) (now (heads .exit)) k best r ⌝ }
+{
+    let from = nodes::start(table, k);
+    let to = nodes::end(table, k);
+    let c = chain_of(text, from + 1, to - 1);
+    let head = heads[c];
+    let found = in_chain(text, table, links, wide(head), k);
+    links[k / 3] = head;
+    heads[c] = k as u32;
+    if !found {
+        return best;
+    }
+    nodes::lesser(best, nodes::fault_at(6, from))
+}
+
+// Rule 6 in the object at node i, by chains of its names: a name is compared with those of its own chain alone.
+fn chained_in(text: &[u8], table: &[u32], links: &mut [u32; 32784], i: usize, best: u32) -> u32
+    requires { ⌜ LongObject (now text) (now table) (now links) i ⌝ }
+    ensures { λ r. ⌜ (PartGives 6 own6 (now (text .entry)) (now (table .entry)) i best r) × (length (now (links .exit)) ≡ 32784) ⌝ }
+{
+    let n = nodes::next(table, i);
+    let first = i + 3;
+    let mut heads: [u32; 4096] = [0; 4096];
+    let mut least = best;
+    let mut k = first;
+    while k < n {
+        least = chain_at(text, table, links, &mut heads, k, least);
+        k = nodes::next(table, k + 3);
+    }
+    least
+}
+
+// Rule 6 at a node, if an object stands there: among its names. The first 16 are compared with all before them; if there are more, all names go into chains, if there is a link for each node.
+fn repeated_in(text: &[u8], table: &[u32], links: &mut [u32; 32784], i: usize, best: u32) -> u32
+    requires { ⌜ (AnyPart (now text) (now table) i) × (length (now links) ≡ 32784) ⌝ }
+    ensures { λ r. ⌜ (PartGives 6 own6 (now (text .entry)) (now (table .entry)) i best r) × (length (now (links .exit)) ≡ 32784) ⌝ }
+{
+    let at = nodes::start(table, i);
+    if text[at] != b'{' {
+        return best;
+    }
+    let n = nodes::next(table, i);
+    let first = i + 3;
+    let mut least = best;
+    let mut seen: usize = 0;
+    let mut k = first;
+    while k < n {
+        if seen == 16 {
+            if n <= 98352 {
+                return chained_in(text, table, links, i, best);
+            }
+        }
+        least = repeat_at(text, table, first, k, least);
+        seen += 1;
+        k = nodes::next(table, k + 3);
+    }
+    least
+}
+
+// Rule 6 in the tree whose table has n words: in any object.
+pub fn repeated(text: &[u8], table: &[u32], n: usize, best: u32) -> u32
+    requires { ⌜ Root (now text) (now table) n ⌝ }
+    ensures { λ r. ⌜ Gives (λ v. least best (map (fault 6) (rule6 v))) (now (text .entry)) (now (table .entry)) 0 r ⌝ }
+{
+    let mut links: [u32; 32784] = [0; 32784];
+    let mut least = best;
+    let mut k = 0;
+    while k < n {
+        least = repeated_in(text, table, &mut links, k, least);
+        k += 3;
+    }
+    least
+}
