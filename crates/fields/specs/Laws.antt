@@ -1,5 +1,5 @@
 -- Laws of what was found, for code that goes on with it. Assumes nothing.
-use Prim.Native.Nat.{ℕ, _+_, _-_, _≤_, _<_}
+use Prim.Native.Nat.{ℕ, _+_, _*_, _-_, _^_, _≤_, _<_}
 use native.Mathlib.Omega.{arith}
 use mathlib.Core.Path.{_≡_, refl, sym, ap, _∙_, subst}
 use mathlib.Core.Bool.{Bool, true, false, not}
@@ -7,6 +7,8 @@ use mathlib.Core.List.{List, [], _∷_}
 use mathlib.Core.Option.{Option, none, some}
 use Prim.Native.String.{String}
 use lib.ListN.{length, getD}
+use mir.Syntax.{w64}
+use mir.Val.{Fits}
 use borrow.Author.Tests.{not-true, not-false}
 use Rattle.utf8.specs.Utf8.{same}
 use Rattle.strings.specs.Spans.{Span, decodeAt}
@@ -15,7 +17,8 @@ use Rattle.json.specs.Tree.{Json}
 use Rattle.json.specs.Table.{Sub}
 use Rattle.json.specs.Laws.{words}
 use Rattle.nodes.specs.Access.{isStringValue, textOf, elements}
-use Rattle.nodes.specs.Says.{Node, Sought, Finds, Gives, GivesFound}
+use Rattle.nodes.specs.Says.{Node, Sought, Seeks, Finds, Gives, GivesFound}
+use Rattle.nodes.specs.Walks.{node-room, node-onward}
 use Rattle.nodes.specs.Laws.{StringAt, rawOf, string-at, text-at}
 use Rattle.nodes.specs.declared.Found.{Found}
 use Rattle.nodes.specs.declared.Found.the-variants.{At, Nothing}
@@ -27,6 +30,16 @@ module _ {x t : List ℕ} {found : Found} where
   pub at-node : {k : ℕ} → Sought x t found → found ≡ At k → Node x t k
   unfolding Finds
   at-node s e = let (v, p, q) : Finds x t (s .answer) (At _) = subst (Finds x t (s .answer)) e (s .finds) in record { value = v; stands = q; short = s .short }
+
+  pub at-room : {k : ℕ} → Sought x t found → found ≡ At k → k + 2 < length t
+  at-room s e = node-room (at-node s e)
+
+  pub at-onward : {k : ℕ} → Sought x t found → found ≡ At k → length t * 4 < 2 ^ 63 → Fits w64 (k + 3)
+  at-onward s e h = node-onward (at-node s e) h
+
+  -- what a search in a value found is sought
+  pub sought-in : {i : ℕ} {f : Json → Option Json} → Seeks f x t i found → Node x t i → Sought x t found
+  sought-in {f = f} s d = record { answer = f (d .value); finds = s .finds (d .value) (d .stands); short = d .short }
 
   -- an answer for nothing
   pub of-none : {A : Type 0} {r : A} (f : Option Json → A) → found ≡ Nothing → r ≡ f none → GivesFound f x t found r

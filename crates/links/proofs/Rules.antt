@@ -10,7 +10,7 @@ use Rattle.json.specs.Tree.{Json}
 use Rattle.nodes.specs.Says.{Node, Sought, Seeks}
 use Rattle.nodes.specs.declared.Found.{Found}
 use Rattle.shapes.specs.Laws.{checking}
-use Rattle.fields.specs.Laws.{at-node}
+use Rattle.fields.specs.Laws.{at-node, sought-in}
 use Rattle.ids.specs.Says.{Objects, Chains}
 use Rattle.ids.proofs.Rules.{ids, object-node, object-value, fresh-zero, fresh-length}
 use Rattle.links.specs.Says.{Numbered, Empty}
@@ -19,10 +19,6 @@ use Rattle.links.proofs.Walk.{walk-node, walk-less}
 use Rattle.links.proofs.Marking.{mark-other, mark-absent, mark-again, mark-new, marking-begin, marking-room, marking-turn, marked, marked-other, marked-at, marked-nothing}
 use Rattle.links.proofs.Answering.{open-other, open-absent, open-told, answering-begin, answering-turn, answered, answered-other, answered-nothing, answered-at, children-nothing, children-excused, children-at}
 use Rattle.links.proofs.Sweeps.{object-marks, filling-begin, filling-below, filling-above, filling-turn, filled, parent-some, parent-told, object-opens, opening-begin, opening-turn, opened, filled-all, all-given, objects-are, alone-are, links-given}
-
--- what a search in a value found is sought
-pub sought-in : {x t : List ℕ} {i : ℕ} {found : Found} {f : Json → Option Json} → Seeks f x t i found → Node x t i → Sought x t found
-sought-in {f = f} s d = record { answer = f (d .value); finds = s .finds (d .value) (d .stands); short = d .short }
 
 -- the value of the object of number k, and its row
 pub object-at : {x t offsets : List ℕ} {count k : ℕ} {heads nexts : List ℕ} → Numbered x t offsets count heads nexts → k < count → Node x t (getD offsets k 0 + 3)

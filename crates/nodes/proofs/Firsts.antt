@@ -15,14 +15,9 @@ use Rattle.json.specs.Laws.{words}
 use Rattle.nodes.specs.Access.{isNullValue, isNumberValue, isStringValue, isArrayValue, isObjectValue}
 use Rattle.nodes.specs.Says.{Node, Gives}
 use Rattle.nodes.specs.Laws.{Kinds, kinds}
+use Rattle.nodes.specs.Walks.{node-room, node-first}
 
--- a node has three words, and starts within the text
-pub node-room : {x t : List ℕ} {i : ℕ} → Node x t i → i + 2 < length t
-node-room d = words (d .stands) .room
-
-pub node-first : {x t : List ℕ} {i : ℕ} → Node x t i → i < length t
-node-first d = let w = words (d .stands) in omega (arith, w .room)
-
+-- a node starts within the text
 pub node-inside : {x t : List ℕ} {i p : ℕ} → Node x t i → p ≡ getD t i 0 → p < length x
 node-inside d e = let w = words (d .stands) in omega (arith, w .start, w .some, w .inside)
 

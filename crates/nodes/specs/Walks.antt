@@ -1,14 +1,31 @@
--- What the code of a loop over members may read. Assumes nothing.
-use Prim.Native.Nat.{ℕ, _+_, _-_, _≤_, _<_}
+-- What the code may read at a node, and in a loop over members. Assumes nothing.
+use Prim.Native.Nat.{ℕ, _+_, _*_, _-_, _^_, _≤_, _<_}
 use mathlib.Core.Path.{_≡_}
 use mathlib.Core.List.{List}
 use native.Mathlib.Omega.{arith}
 use lib.ListN.{length, getD}
+use mir.Syntax.{w64}
+use mir.Val.{Fits}
 use Rattle.strings.specs.Spans.{Span}
 use Rattle.json.specs.Tree.{Members}
 use Rattle.json.specs.Table.{widths, Fields}
-use Rattle.json.specs.Laws.{MembersLeft, MemberPast, member-past}
+use Rattle.json.specs.Laws.{words, MembersLeft, MemberPast, member-past}
+use Rattle.nodes.specs.Says.{Node}
 use Rattle.nodes.specs.Laws.{StringAt, quoted-at}
+
+-- a node's three words are there, and the index of what stands after them fits
+module _ {x t : List ℕ} {i : ℕ} (d : Node x t i) where
+  pub node-room : i + 2 < length t
+  node-room = words (d .stands) .room
+
+  pub node-second : i + 1 < length t
+  node-second = let w = words (d .stands) in omega (arith, w .room)
+
+  pub node-first : i < length t
+  node-first = let w = words (d .stands) in omega (arith, w .room)
+
+  pub node-onward : length t * 4 < 2 ^ 63 → Fits w64 (i + 3)
+  node-onward h = let w = words (d .stands) in record { fits = omega (arith, w .room) }
 
 -- a string at a node, as the code reads it
 module _ {x t : List ℕ} {k : ℕ} {raw : List ℕ} (s : StringAt x t k raw) where

@@ -1,8 +1,7 @@
 -- What `search` is handed to close what the functions leave. Assumes nothing.
 use borrow.Author.Needs.{needs}
-use Rattle.fields.specs.Laws.{at-node, string-node}
+use Rattle.fields.specs.Laws.{at-node, at-room, at-onward, sought-in, string-node}
 use Rattle.ids.proofs.Rules.{member-onward, member-text, text-first, text-second, text-some, text-fits, text-span}
-use Rattle.links.proofs.Rules.{sought-in, at-room, at-onward}
 use Rattle.arrays.specs.Laws.{laying-start, laying-room, laying-less, laying-turn}
 use Rattle.records.proofs.Texts.{quotes-none, quotes-other, quotes-string, lod-room, major-low, minor-low, lod-product, lod-sum, lod-both, lod-whole, lod-parted, surface-added, surface-listed}
 use Rattle.records.proofs.Nodes.{wrote-onward, found-onward, found-holds, any-elements, laying-node, laying-same, each-none, each-other, each-done, surface-wrote}

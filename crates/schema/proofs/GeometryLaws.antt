@@ -9,8 +9,6 @@ use mathlib.Core.Option.{Option, some}
 use mathlib.Core.Option as option
 use lib.ListN.{length, getD}
 use lib.Dec.{eqb}
-use mir.Syntax.{w64}
-use mir.Val.{Fits}
 use borrow.Author.Tests.{not-true, not-false, ne-eqb, eqb-true, eqb-false}
 use Rattle.utf8.specs.Ascii.{ascii}
 use Rattle.utf8.specs.Utf8.{same}
@@ -28,11 +26,11 @@ use Rattle.nodes.specs.declared.Found.{Found}
 use Rattle.nodes.specs.declared.Found.the-variants.{At, Nothing}
 use Rattle.fields.specs.Fields.{textIn, typeText, countIn}
 use Rattle.fields.specs.Says.{StringNode, CodeOf}
-use Rattle.fields.specs.Laws.{at-node, of-none, of-some, string-node, string-span, string-text}
+use Rattle.fields.specs.Laws.{at-node, at-room, at-onward, of-none, of-some, string-node, string-span, string-text}
 use Rattle.shapes.specs.Checks.{Check, unless, all, on, at, forEach, each, isObject, isString, isArray, isSome, needs, text}
 use Rattle.shapes.specs.Shapes.{shaped, near, matches, isNil, isIntegerValue}
 use Rattle.shapes.specs.Says.{Nodes, GivesTwo, Needs}
-use Rattle.shapes.specs.Laws.{checking, node-room, node-onward, least-needs, unless-yes, array-is, all-then, all-none, pass-none}
+use Rattle.shapes.specs.Laws.{checking, least-needs, unless-yes, array-is, all-then, all-none, pass-none}
 use Rattle.schema.specs.Schema.{isGeometryType, isSurfaceType, geometryType, lod, surfaceType, surface, boundary, boundaries, overBoundary, values, surfaces, semantics, needsLod, geometry, geometries}
 use Rattle.schema.specs.Says.{GivesBoth, GivesOver, GivesThree, lacksLod, SoundAt, SoundFound}
 
@@ -95,13 +93,6 @@ code-sought d = d .sought
 
 pub code-node : {x t : List ℕ} {words : List String} {found : Found} {code k : ℕ} → CodeOf words x t found code → found ≡ At k → Node x t k
 code-node d e = at-node (d .sought) e
-
--- a found node's words are there, and the node after them has an index that fits
-pub found-room : {x t : List ℕ} {found : Found} {k : ℕ} → Sought x t found → found ≡ At k → k + 2 < length t
-found-room s e = node-room (at-node s e)
-
-pub found-onward : {x t : List ℕ} {found : Found} {k : ℕ} → Sought x t found → found ≡ At k → length t * 4 < 2 ^ 63 → Fits w64 (k + 3)
-found-onward s e h = node-onward (at-node s e) h
 
 pub nodes-two : {x t : List ℕ} {i j : ℕ} → Node x t i → Node x t j → Nodes x t i j
 nodes-two d e = record { one = d; two = e }
@@ -472,4 +463,4 @@ pub geometry-coded : {x t : List ℕ} {kind : Found} {code : ℕ} → Sought x t
 geometry-coded s g = record { sought = s; is = λ o f. g .is o f }
 
 -- what `search` is handed to close what the functions leave
-pub ruleset geometric = (checking, at-node, string-node, string-span, sought, code-sought, code-node, found-room, found-onward, nodes-two, geometry-coded)
+pub ruleset geometric = (checking, at-node, string-node, string-span, sought, code-sought, code-node, at-room, at-onward, nodes-two, geometry-coded)

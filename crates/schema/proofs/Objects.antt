@@ -28,12 +28,10 @@ use Rattle.shapes.specs.Checks.{Check, unless, all, on, at, each, isObject, isS
 use Rattle.shapes.specs.Checks as checks
 use Rattle.shapes.specs.Says.{Needs}
 use Rattle.shapes.specs.Shapes.{holdsThree, inPairRange, vertex}
-use mir.Val.{Fits}
-use mir.Syntax.{w64}
-use Rattle.shapes.specs.Laws.{checking, node-room, node-onward, least-all, gives-as, gives-then, text-none, all-none, all-then, needs-none, needs-then, unless-told, unless-yes, kind-no, kind-yes, pass-none, pass-done}
+use Rattle.shapes.specs.Laws.{checking, least-all, gives-as, gives-then, text-none, all-none, all-then, needs-none, needs-then, unless-told, unless-yes, kind-no, kind-yes, pass-none, pass-done}
 use Rattle.fields.specs.Fields.{textIn, typeText}
 use Rattle.fields.specs.Says.{CodeOf, StringNode}
-use Rattle.fields.specs.Laws.{at-node, of-none, of-some, string-node, string-first, string-second, string-span, string-text, other-text}
+use Rattle.fields.specs.Laws.{at-node, at-room, at-onward, sought-in, of-none, of-some, string-node, string-first, string-second, string-span, string-text, other-text}
 use Rattle.schema.specs.Schema.{wordIs, objectType, isObjectType, links, geometries, cityObject, threePairs, vertices}
 
 -- a check of what was found
@@ -60,19 +58,7 @@ pub vertices-is : (best : ℕ) (v : Json) → least best (isArray v ++ each vert
 unfolding vertices
 vertices-is best v = ap (least best) (two-checks isArray (each vertex) v)
 
--- a node that was found lies in the table
-module _ {x t : List ℕ} {found : Found} {k : ℕ} (s : Sought x t found) (e : found ≡ At k) where
-  pub at-room : k + 2 < length t
-  at-room = node-room (at-node s e)
-
-  pub at-onward : length t * 4 < 2 ^ 63 → Fits w64 (k + 3)
-  at-onward h = node-onward (at-node s e) h
-
--- what a search in a value found is sought
-pub sought-in : {x t : List ℕ} {i : ℕ} {found : Found} {f : Json → Option Json} → Seeks f x t i found → Node x t i → Sought x t found
-sought-in {f = f} s d = record { answer = f (d .value); finds = s .finds (d .value) (d .stands); short = d .short }
-
--- the same where the value was itself found
+-- what a search in a value that was itself found found is sought
 pub sought-at : {x t : List ℕ} {k : ℕ} {found other : Found} {f : Json → Option Json} → Seeks f x t k found → Sought x t other → other ≡ At k → Sought x t found
 sought-at s d e = sought-in s (at-node d e)
 

@@ -22,6 +22,7 @@ use Rattle.nodes.specs.Faults.{fault, least}
 use Rattle.nodes.specs.Says.{Node, Gives, Finds, Seeks}
 use Rattle.nodes.specs.declared.Found.{Found}
 use Rattle.nodes.specs.declared.Found.the-variants.{At, Nothing}
+use Rattle.nodes.specs.Walks.{node-room, node-second, node-first, node-onward}
 use Rattle.nodes.specs.Laws.{place-at, text-at, numeral-at, elements-begin, fields-begin, no-elements, no-members, least-++, least-comm}
 use Rattle.shapes.specs.Checks.{Check, unless, all, on, at, forEach, each, values, eachMember, isObject, isString, isNumber, isArray, isSome, needs, text, numeral}
 use Rattle.shapes.specs.Says.{Needs}
@@ -85,19 +86,6 @@ unfolding least unless
 unless-true best rule v e = rw e
 
 module _ {x t : List ℕ} {i : ℕ} where
-  -- a node's words are there, and the node after its three words has an index that fits
-  pub node-room : Node x t i → i + 2 < length t
-  node-room d = words (d .stands) .room
-
-  pub node-second : Node x t i → i + 1 < length t
-  node-second d = let w = words (d .stands) in omega (arith, w .room)
-
-  pub node-first : Node x t i → i < length t
-  node-first d = let w = words (d .stands) in omega (arith, w .room)
-
-  pub node-onward : Node x t i → length t * 4 < 2 ^ 63 → Fits w64 (i + 3)
-  node-onward d h = let w = words (d .stands) in record { fits = omega (arith, w .room) }
-
   pub place-fits : {p : ℕ} → Node x t i → p ≡ getD t i 0 → p ≤ 65535
   place-fits d e = let w = words (d .stands) in let s = d .short in omega (arith, w .start, w .some, w .inside)
 

@@ -4,7 +4,8 @@ use native.Mathlib.Omega.{arith}
 use Rattle.utf8.specs.Ascii.{ascii}
 use Rattle.shapes.specs.Laws.{seeks-find}
 use Rattle.ids.proofs.Rules.{object-onward}
-use Rattle.links.proofs.Rules.{sweeping, sought-in, object-at}
+use Rattle.fields.specs.Laws.{sought-in}
+use Rattle.links.proofs.Rules.{sweeping, object-at}
 use Rattle.links.proofs.Sweeps.{object-opens}
 use Rattle.links.proofs.answer_object.Statement.{statement}
 use Rattle.links.proofs.answer_object.Tie as tie

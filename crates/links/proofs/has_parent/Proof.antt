@@ -1,5 +1,6 @@
 -- `links::has_parent` meets its contract. Assumes nothing.
-use Rattle.links.proofs.Rules.{sweeping, sought-in}
+use Rattle.fields.specs.Laws.{sought-in}
+use Rattle.links.proofs.Rules.{sweeping}
 use Rattle.links.proofs.Sweeps.{parent-some, parent-told}
 use Rattle.links.proofs.has_parent.Statement.{statement}
 use Rattle.links.proofs.has_parent.Tie as tie

@@ -4,7 +4,8 @@ use native.Mathlib.Omega.{arith}
 use Rattle.utf8.specs.Ascii.{ascii}
 use Rattle.shapes.specs.Laws.{seeks-find}
 use Rattle.ids.proofs.Rules.{object-onward}
-use Rattle.links.proofs.Rules.{sweeping, sought-in, object-at, row-within}
+use Rattle.fields.specs.Laws.{sought-in}
+use Rattle.links.proofs.Rules.{sweeping, object-at, row-within}
 use Rattle.links.proofs.Sweeps.{object-marks}
 use Rattle.links.proofs.mark_object.Statement.{statement}
 use Rattle.links.proofs.mark_object.Tie as tie

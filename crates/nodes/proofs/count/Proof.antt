@@ -1,7 +1,7 @@
 -- `nodes::count` meets its contract. Assumes nothing.
 use Prim.Native.Nat.{_-_}
 use native.Mathlib.Omega.{arith}
-use Rattle.nodes.proofs.Firsts.{node-room}
+use Rattle.nodes.specs.Walks.{node-room}
 use Rattle.nodes.proofs.Loops.{Counts, count-fits, loops}
 use Rattle.nodes.proofs.count.Statement.{statement}
 use Rattle.nodes.proofs.count.Tie as tie

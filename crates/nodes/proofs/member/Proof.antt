@@ -1,8 +1,7 @@
 -- `nodes::member` meets its contract. Assumes nothing.
 use Prim.Native.Nat.{_-_}
 use native.Mathlib.Omega.{arith}
-use Rattle.nodes.proofs.Firsts.{node-room}
-use Rattle.nodes.specs.Walks.{walk-fits, walk-room}
+use Rattle.nodes.specs.Walks.{node-room, walk-fits, walk-room}
 use Rattle.nodes.proofs.Loops.{Searches, member-none, member-found, member-done, loops}
 use Rattle.nodes.proofs.member.Statement.{statement}
 use Rattle.nodes.proofs.member.Tie as tie

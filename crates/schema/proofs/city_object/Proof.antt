@@ -2,7 +2,8 @@
 use mathlib.Core.Path.{refl}
 use Rattle.utf8.specs.Ascii.{ascii}
 use Rattle.shapes.specs.Laws.{seeks-find}
-use Rattle.schema.proofs.Objects.{root, sought-in, object-coded, object-all}
+use Rattle.fields.specs.Laws.{sought-in}
+use Rattle.schema.proofs.Objects.{root, object-coded, object-all}
 use Rattle.schema.proofs.city_object.Statement.{statement}
 use Rattle.schema.proofs.city_object.Tie as tie
 

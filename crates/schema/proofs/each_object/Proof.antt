@@ -1,7 +1,8 @@
 -- `schema::each_object` meets its contract. Assumes nothing.
 use Prim.Native.Nat.{_-_}
 use native.Mathlib.Omega.{arith}
-use Rattle.shapes.specs.Laws.{MemberPass, node-room, members-start, members-node, members-room, members-turn, members-less, members-done}
+use Rattle.nodes.specs.Walks.{node-room}
+use Rattle.shapes.specs.Laws.{MemberPass, members-start, members-node, members-room, members-turn, members-less, members-done}
 use Rattle.schema.specs.Schema.{cityObject}
 use Rattle.schema.proofs.each_object.Statement.{statement}
 use Rattle.schema.proofs.each_object.Tie as tie

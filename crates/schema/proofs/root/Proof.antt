@@ -4,7 +4,8 @@ use mathlib.Core.Path.{refl}
 use Rattle.utf8.specs.Ascii.{ascii}
 use Rattle.shapes.specs.Laws.{seeks-find}
 use Rattle.schema.specs.Schema.{word}
-use Rattle.schema.proofs.Objects.{root, sought-in}
+use Rattle.fields.specs.Laws.{sought-in}
+use Rattle.schema.proofs.Objects.{root}
 use Rattle.schema.proofs.Filling.{root-all, root-indexed}
 use Rattle.schema.proofs.root.Statement.{statement}
 use Rattle.schema.proofs.root.Tie as tie

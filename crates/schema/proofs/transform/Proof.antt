@@ -6,8 +6,8 @@ use Rattle.shapes.specs.Checks.{isObject, needs, at}
 use Rattle.shapes.specs.Laws.{all-none, all-then, needs-none, needs-then, seeks-find}
 use Rattle.schema.specs.Schema.{threePairs}
 use Rattle.schema.specs.Schema as schema
-use Rattle.fields.specs.Laws.{at-node}
-use Rattle.schema.proofs.Objects.{root, sought-in, found-nothing, found-some, at-gives}
+use Rattle.fields.specs.Laws.{at-node, sought-in}
+use Rattle.schema.proofs.Objects.{root, found-nothing, found-some, at-gives}
 use Rattle.schema.proofs.transform.Statement.{statement}
 use Rattle.schema.proofs.transform.Tie as tie
 
