@@ -215,7 +215,10 @@ fn mark_object(
         below,
         best,
     );
-    mark_found(
+    let Found::At(j) = above else {
+        return a;
+    };
+    mark_list(
         text,
         table,
         offsets,
@@ -225,7 +228,7 @@ fn mark_object(
         memo,
         parents,
         k,
-        above,
+        j,
         a,
     )
 }

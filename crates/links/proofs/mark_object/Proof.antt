@@ -3,9 +3,11 @@ use mathlib.Core.Path.{refl}
 use native.Mathlib.Omega.{arith}
 use Rattle.utf8.specs.Ascii.{ascii}
 use Rattle.shapes.specs.Laws.{seeks-find}
+use Rattle.fields.specs.Laws.{at-node}
 use Rattle.ids.proofs.Rules.{object-onward}
 use Rattle.fields.specs.Laws.{sought-in}
 use Rattle.links.proofs.Rules.{sweeping, object-at, row-within}
+use Rattle.links.proofs.Marking.{marked-at, marked-nothing}
 use Rattle.links.proofs.Sweeps.{object-marks}
 use Rattle.links.proofs.mark_object.Statement.{statement}
 use Rattle.links.proofs.mark_object.Tie as tie
@@ -25,12 +27,16 @@ member-requires-2 c κs = let p = c .before .before .before .before .before .bef
 mark-found-requires : tie.Need-mark-found-requires
 mark-found-requires c κs = let p = c .before .before .before .before .before .before .before .before .before .before .before .pre in (p .0, sought-in (c .before .before .before .before .member .ensures) (object-at (p .0) (p .1)), row-within (p .1) (p .2), p .4)
 
-mark-found-requires-2 : tie.Need-mark-found-requires-2
-mark-found-requires-2 c κs = let p = c .before .before .before .before .before .before .before .before .before .before .before .before .before .before .before .before .pre in (p .0, sought-in (c .before .before .before .before .before .before .before .member2 .ensures) (object-at (p .0) (p .1)), row-within (p .1) (p .3), c .before .before .before .before .mark-found .ensures .1)
-
 returns : tie.Need-returns
 unfolding ascii
-returns c = let p = c .before .before .before .before .before .before .before .before .before .before .before .before .before .before .before .before .before .before .before .pre in (object-marks (seeks-find "children" refl (c .before .before .before .before .before .before .before .before .before .before .before .before .member .ensures)) (seeks-find "parents" refl (c .before .before .before .before .before .before .before .before .before .before .member2 .ensures)) (c .before .before .before .before .before .before .before .mark-found .ensures .0) (c .before .before .mark-found2 .ensures .0) (p .1) (p .2) (p .3), c .before .before .mark-found2 .ensures .1)
+returns c = let p = c .before .before .before .before .before .before .before .before .before .before .before .before .before .before .before .before .pre in (object-marks (seeks-find "children" refl (c .before .before .before .before .before .before .before .before .before .member .ensures)) (seeks-find "parents" refl (c .before .before .before .before .before .before .before .member2 .ensures)) (c .before .before .before .before .mark-found .ensures .0) (marked-nothing (c .enum-told .given .1)) (p .1) (p .2) (p .3), c .before .before .before .before .mark-found .ensures .1)
+
+mark-list-requires : tie.Need-mark-list-requires
+mark-list-requires c κs = let p = c .before .before .before .before .before .before .before .before .before .before .before .before .before .before .before .before .before .before .before .pre in (p .0, at-node (sought-in (c .before .before .before .before .before .before .before .before .before .before .member2 .ensures) (object-at (p .0) (p .1))) (c .before .before .before .above .given .1), row-within (p .1) (p .3), c .before .before .before .before .before .before .before .mark-found .ensures .1)
+
+returns-2 : tie.Need-returns-2
+unfolding ascii
+returns-2 c = let p = c .before .before .before .before .before .before .before .before .before .before .before .before .before .before .before .before .before .before .before .before .before .before .pre in (object-marks (seeks-find "children" refl (c .before .before .before .before .before .before .before .before .before .before .before .before .before .before .before .member .ensures)) (seeks-find "parents" refl (c .before .before .before .before .before .before .before .before .before .before .before .before .before .member2 .ensures)) (c .before .before .before .before .before .before .before .before .before .before .mark-found .ensures .0) (marked-at (c .before .before .before .before .before .before .above .given .1) (c .before .before .mark-list .ensures .0)) (p .1) (p .2) (p .3), c .before .before .mark-list .ensures .1)
 
 pub mark-object-spec : {M : Type 1} → statement M
 mark-object-spec =
@@ -44,7 +50,11 @@ mark-object-spec =
     (λ c. search sweeping)
     member-requires-2
     mark-found-requires
-    mark-found-requires-2
     (λ c. search sweeping)
     (λ c. search sweeping)
-    returns)
+    (λ c. search sweeping)
+    returns
+    mark-list-requires
+    (λ c. search sweeping)
+    (λ c. search sweeping)
+    returns-2)
