@@ -5,4 +5,5 @@ pub mod Memo
 pub mod Walk
 pub mod Marking
 pub mod Answering
+pub mod Level
 pub mod Sweeps

@@ -4,13 +4,13 @@ use Prim.Native.String.{String}
 use native.Mathlib.Omega.{arith}
 use native.Mathlib.Numerals.{add-one}
 use mathlib.Core.Path.{_≡_, refl, sym, ap, _∙_}
-use mathlib.Core.Bool.{Bool, true, false, not, _&&_, and-false}
+use mathlib.Core.Bool.{Bool, true, false, not, _&&_, and-true, and-false}
 use mathlib.Core.List.{List, [], _∷_, _++_}
 use mathlib.Core.Option.{Option, none, some}
 use lib.ListN.{length, getD, drop, drop-of-length-le}
 use lib.Seq.{drop-cons, ext-getD}
-use lib.Dec.{eqb, ltb}
-use borrow.Author.Tests.{lt-ltb, le-ltb, ltb-true, ltb-false, ne-eqb, eqb-true, eqb-false}
+use lib.Dec.{eqb}
+use borrow.Author.Tests.{ne-eqb, eqb-true, eqb-false}
 use Rattle.utf8.specs.Ascii.{ascii}
 use Rattle.utf8.specs.Utf8.{same}
 use Rattle.words.specs.Words.{objectWords, codeOf, is, isSecondLevel}
@@ -145,43 +145,32 @@ empty-count (some v) = of (elements v)
     of [] = refl
     of (a ∷ l) = sym (ne-eqb (length (a ∷ l)) 0 (λ e. omega arith))
 
-parent-parts : (v : Json) → hasParent v ≡ unless (not (ltb 16 (codeOf objectWords (typeText v)) && isEmpty (elementsIn (find "parents" v)))) 16 v
-unfolding hasParent isSecondLevel listedIn
+parent-parts : (v : Json) → hasParent v ≡ unless (not (isSecondLevel (codeOf objectWords (typeText v)) && isEmpty (elementsIn (find "parents" v)))) 16 v
+unfolding hasParent listedIn
 parent-parts v = refl
 
--- rule 16 by the code of the object's type and the count of its parents
-parent-by : (best : ℕ) (v : Json) (code count : ℕ) → code ≡ codeOf objectWords (typeText v) → count ≡ countIn (find "parents" v) → least best (unless (not (ltb 16 code && eqb count 0)) 16 v) ≡ least best (hasParent v)
-parent-by best v code count c n = rw (parent-parts v, ← c, empty-count (find "parents" v), ← n)
-
--- below the second level
-first-level : (code : ℕ) → not (ltb 16 code && eqb 0 0) ≡ ltb code 17
-first-level code = of (ltb code 17) refl
-  where
-    of : (b : Bool) → ltb code 17 ≡ b → not (ltb 16 code && eqb 0 0) ≡ b
-    of true e = let l : code < 17 = ltb-true code 17 e in rw (le-ltb 16 code (omega arith))
-    of false e = let l : 17 ≤ code = ltb-false code 17 e in rw (lt-ltb 16 code (omega arith))
+-- rule 16 by the level of the object's type and the count of its parents
+parent-by : (best : ℕ) (v : Json) (second : Bool) (count : ℕ) → second ≡ isSecondLevel (codeOf objectWords (typeText v)) → count ≡ countIn (find "parents" v) → least best (unless (not (second && eqb count 0)) 16 v) ≡ least best (hasParent v)
+parent-by best v second count c n = rw (parent-parts v, ← c, empty-count (find "parents" v), ← n)
 
 module _ {x t : List ℕ} {i : ℕ} {parents : Found} (best : ℕ) {count : ℕ} (p : Seeks (λ v. find "parents" v) x t i parents) (n : GivesFound countIn x t parents count) where
   count-is : {v : Json} → Sub x t i v → count ≡ countIn (find "parents" v)
   count-is {v} s = n .is (find "parents" v) (p .finds v s)
 
-  kept : (code : ℕ) → (count ≡ 0 → ⊥) → not (ltb 16 code && eqb count 0) ≡ true
-  kept code h = rw (ne-eqb count 0 h, and-false (ltb 16 code))
+  kept : (second : Bool) → (count ≡ 0 → ⊥) → not (second && eqb count 0) ≡ true
+  kept second h = rw (ne-eqb count 0 h, and-false second)
 
   pub parent-some : (count ≡ 0 → ⊥) → Gives (λ v. least best (hasParent v)) x t i best
-  parent-some h = record { is = λ v s. unless-true best 16 v (kept (codeOf objectWords (typeText v)) h) ∙ parent-by best v (codeOf objectWords (typeText v)) count refl (count-is s) }
+  parent-some h = record { is = λ v s. let b = isSecondLevel (codeOf objectWords (typeText v)) in unless-true best 16 v (kept b h) ∙ parent-by best v b count refl (count-is s) }
 
-  pub parent-told : {code r : ℕ} → count ≡ 0 → Gives (λ v. codeOf objectWords (typeText v)) x t i code → Gives (λ v. least best (unless (ltb code 17) 16 v)) x t i r → Gives (λ v. least best (hasParent v)) x t i r
-  parent-told {code = code} z g u = record { is = λ v s. u .is v s ∙ (ap (λ b. least best (unless b 16 v)) (sym (first-level code)) ∙ parent-by best v code 0 (g .is v s) (sym z ∙ count-is s)) }
+  pub parent-told : {kind : Found} {b : Bool} {r : ℕ} → count ≡ 0 → Seeks (λ v. find "type" v) x t i kind → GivesFound (λ o. isSecondLevel (codeOf objectWords (textIn o))) x t kind b → Gives (λ v. least best (unless (not b) 16 v)) x t i r → Gives (λ v. least best (hasParent v)) x t i r
+  unfolding typeText
+  parent-told {b = b} z y g u = record { is = λ v s. u .is v s ∙ (ap (λ c. least best (unless (not c) 16 v)) (sym (and-true b)) ∙ parent-by best v b 0 (g .is (find "type" v) (y .finds v s)) (sym z ∙ count-is s)) }
 
 -- ---- rules 16 and 17
 
 -- what is told of the type of the object at the node i
 module _ {x t : List ℕ} {i : ℕ} {kind : Found} (s : Seeks (λ v. find "type" v) x t i kind) where
-  pub type-code : {code : ℕ} → GivesFound (λ o. codeOf objectWords (textIn o)) x t kind code → Gives (λ v. codeOf objectWords (typeText v)) x t i code
-  unfolding typeText
-  type-code g = record { is = λ v u. g .is (find "type" v) (s .finds v u) }
-
   pub type-is : (word : String) {b : Bool} → GivesFound (λ o. same (ascii word) (textIn o)) x t kind b → Gives (λ v. is word (typeText v)) x t i b
   unfolding typeText is
   type-is word g = record { is = λ v u. g .is (find "type" v) (s .finds v u) }

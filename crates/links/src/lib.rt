@@ -6,12 +6,12 @@ ghost use Prim.Native.Nat.{ℕ, _+_, _*_, _<_, _≤_};
 ghost use mathlib.Core.Path.{_≡_};
 ghost use lib.ListN.{length, getD};
 ghost use mathlib.Core.Bool.{false};
-ghost use Rattle.words.specs.Words.{objectWords, codeOf, is};
+ghost use Rattle.words.specs.Words.{objectWords, codeOf, is, isSecondLevel};
 ghost use Rattle.nodes.specs.Access as access;
 ghost use Rattle.nodes.specs.Faults.{least};
-ghost use Rattle.nodes.specs.Says.{Node, Sought, Seeks, Gives};
+ghost use Rattle.nodes.specs.Says.{Node, Sought, Seeks, Gives, GivesFound};
 ghost use Rattle.nodes.specs.declared.Found.the-variants.{At};
-ghost use Rattle.fields.specs.Fields.{typeText};
+ghost use Rattle.fields.specs.Fields.{textIn, typeText};
 ghost use Rattle.ids.specs.Says.{TextNode, Objects, Numbers};
 ghost use Rattle.links.specs.Links.{hasParent};
 ghost use Rattle.links.specs.Says.{Numbered, Kept, Alone, MarkGives, MarksGive, ObjectMarks, AllMarks, Filled, OpenGives, OpensGive, ChildrenGive, ObjectOpens, AllOpens, Empty, AllGive, Ready, LinksGive};
@@ -422,13 +422,23 @@ fn answer_parents(
     )
 }
 
-// The code of the type of the object at node i.
-fn type_code(text: &[u8], table: &[u32], i: usize) -> usize
-    requires { ⌜ Node (now text) (now table) i ⌝ }
-    ensures { λ r. ⌜ Gives (λ v. codeOf objectWords (typeText v)) (now (text .entry)) (now (table .entry)) i r ⌝ }
+// Is the type that was found one of the second level?
+fn is_second_level(text: &[u8], table: &[u32], found: Found) -> bool
+    requires { ⌜ Sought (now text) (now table) found ⌝ }
+    ensures { λ r. ⌜ GivesFound (λ o. isSecondLevel (codeOf objectWords (textIn o))) (now (text .entry)) (now (table .entry)) found r ⌝ }
 {
-    let kind = nodes::member(text, table, i, b"type");
-    fields::object_code(text, table, kind)
+    let Found::At(k) = found else {
+        return false;
+    };
+    if !nodes::is_string(text, table, k) {
+        return false;
+    }
+    let from = fields::text_from(text, table, k);
+    let to = fields::text_to(text, table, k);
+    if !words::may_be_second_level(text, from, to) {
+        return false;
+    }
+    words::object_code(text, from, to) >= 17
 }
 
 // Rule 16: a second-level object lists a parent.
@@ -440,8 +450,15 @@ fn has_parent(text: &[u8], table: &[u32], i: usize, parents: Found, best: u32) -
     if count != 0 {
         return best;
     }
-    let code = type_code(text, table, i);
-    shapes::unless(code < 17, 16, text, table, i, best)
+    let kind = nodes::member(text, table, i, b"type");
+    shapes::unless(
+        !is_second_level(text, table, kind),
+        16,
+        text,
+        table,
+        i,
+        best,
+    )
 }
 
 // Rules 16 and 17 of the object of number k.
