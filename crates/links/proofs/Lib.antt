@@ -2,6 +2,7 @@ pub mod Rules
 pub mod Split
 pub mod Marks
 pub mod Memo
+pub mod Noting
 pub mod Walk
 pub mod Marking
 pub mod Answering

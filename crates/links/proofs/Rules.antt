@@ -15,6 +15,7 @@ use Rattle.ids.specs.Says.{Objects, Chains}
 use Rattle.ids.proofs.Rules.{ids, object-node, object-value, fresh-zero, fresh-length}
 use Rattle.links.specs.Says.{Numbered, Empty}
 use Rattle.links.proofs.Memo.{number-fits, number-short, kept-room, kept-put, kept-told}
+use Rattle.links.proofs.Noting.{notes-all}
 use Rattle.links.proofs.Walk.{walk-node, walk-less}
 use Rattle.links.proofs.Marking.{mark-other, mark-absent, mark-again, mark-new, marking-begin, marking-room, marking-turn, marked, marked-other, marked-at, marked-nothing}
 use Rattle.links.proofs.Answering.{open-other, open-absent, open-told, answering-begin, answering-turn, answered, answered-other, answered-nothing, answered-at, children-nothing, children-excused, children-at}
@@ -40,4 +41,4 @@ pub ruleset marking = (checking, needs, ids, at-node, walk-node, walk-less, mark
 
 pub ruleset answering = (checking, needs, ids, at-node, walk-node, walk-less, open-other, open-absent, open-told, answering-begin, answering-turn, answered, answered-other, answered-nothing, answered-at, children-nothing, children-excused, children-at)
 
-pub ruleset sweeping = (checking, needs, ids, sought-in, filling-begin, filling-below, filling-above, filling-turn, filled, opening-begin, opening-turn, opened, filled-all, all-given, objects-are, alone-are, links-given)
+pub ruleset sweeping = (checking, needs, ids, sought-in, filling-begin, filling-below, filling-above, filling-turn, filled, notes-all, opening-begin, opening-turn, opened, filled-all, all-given, objects-are, alone-are, links-given)

@@ -4,7 +4,7 @@ use mathlib.Core.Bool.{Bool, false}
 use mathlib.Core.List.{List, [], _∷_, _++_}
 use mathlib.Core.Option.{Option}
 use mathlib.Core.Logic.{_⊎_}
-use Prim.Native.Nat.{ℕ, _+_, _*_, _<_, _≤_}
+use Prim.Native.Nat.{ℕ, zero, suc, _+_, _*_, _<_, _≤_}
 use Prim.Native.String.{String}
 use lib.ListN.{length, getD}
 use Rattle.words.specs.Words as word
@@ -12,11 +12,12 @@ use Rattle.grid.specs.Grid.{holds}
 use Rattle.json.specs.Tree.{Json}
 use Rattle.json.specs.Table.{Sub}
 use Rattle.model.specs.Model.{numberOf}
-use Rattle.nodes.specs.Access.{Member}
+use Rattle.nodes.specs.Access.{Member, find}
 use Rattle.nodes.specs.Faults.{least}
 use Rattle.everywhere.specs.Parts.{textAt}
-use Rattle.nodes.specs.Says.{Finds, Gives, GivesFound}
+use Rattle.nodes.specs.Says.{Finds, Seeks, Gives, GivesFound}
 use Rattle.nodes.specs.declared.Found.{Found}
+use Rattle.nodes.specs.declared.Found.the-variants.{At, Nothing}
 use Rattle.fields.specs.Fields.{typeText, objectsOf}
 use Rattle.fields.specs.Says.{Indexed}
 use Rattle.fields.specs.declared.Index.{Index}
@@ -69,6 +70,25 @@ pub record MarksGive (x t offsets : List ℕ) (count row : ℕ) (found : Found) 
 pub record RowsTo (ms : List Member) (name : String) (g : List ℕ) (k : ℕ) : Type 0 where
   pub done : (j : ℕ) (d : Member) → j < k → Row (namesOf ms) g j (seen [] (listedIn name (getD ms j d .1)))
   pub left : (j : ℕ) → k ≤ j → j < length ms → Row (namesOf ms) g j []
+
+-- what a note of what was found tells: nothing if it is 0, otherwise the node that is one less
+unfoldable pub toldOf : ℕ → Found
+toldOf zero = Nothing
+toldOf (suc i) = At i
+
+-- the node that was found, if any was, is below n
+pub record Below (found : Found) (n : ℕ) : Type 0 where
+  pub is : (i : ℕ) → found ≡ At i → i < n
+
+-- the notes of the first k objects tell what they have under a name
+pub record NotedTo (x t offsets : List ℕ) (name : String) (notes : List ℕ) (k : ℕ) : Type 0 where
+  pub room : length notes ≡ 1024
+  pub is : (j : ℕ) → j < k → Seeks (λ v. find name v) x t (getD offsets j 0 + 3) (toldOf (getD notes j 0))
+
+-- the notes of both lists
+pub record Notes (x t offsets downs ups : List ℕ) (k : ℕ) : Type 0 where
+  pub children : NotedTo x t offsets "children" downs k
+  pub parents : NotedTo x t offsets "parents" ups k
 
 -- rule 15 of the object of number k: the rows of its children and parents are filled
 pub record ObjectMarks (x t offsets : List ℕ) (count k : ℕ) (c c′ p p′ : List ℕ) (best r : ℕ) : Type 0 where

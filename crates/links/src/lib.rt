@@ -1,5 +1,6 @@
 // Rules 15 to 17 over the node table of a text and the index of its city objects. Each function that looks for faults takes the least so far and gives the least.
 // Rule 15 goes first and fills two sets of pairs of objects' numbers: who lists whom as a child, and who lists whom as a parent. Rule 17 then asks the sets.
+// What rule 15 looked up, the numbers of the linked objects and where the lists stand, is kept for rules 16 and 17.
 use fields::Index;
 use nodes::Found;
 ghost use Prim.Native.Nat.{ℕ, _+_, _*_, _<_, _≤_};
@@ -14,7 +15,7 @@ ghost use Rattle.nodes.specs.declared.Found.the-variants.{At};
 ghost use Rattle.fields.specs.Fields.{textIn, typeText};
 ghost use Rattle.ids.specs.Says.{TextNode, Objects, Numbers};
 ghost use Rattle.links.specs.Links.{hasParent};
-ghost use Rattle.links.specs.Says.{Numbered, Kept, Alone, MarkGives, MarksGive, ObjectMarks, AllMarks, Filled, OpenGives, OpensGive, ChildrenGive, ObjectOpens, AllOpens, Empty, AllGive, Ready, LinksGive};
+ghost use Rattle.links.specs.Says.{Numbered, Kept, Alone, MarkGives, MarksGive, toldOf, Below, Notes, ObjectMarks, AllMarks, Filled, OpenGives, OpensGive, ChildrenGive, ObjectOpens, AllOpens, Empty, AllGive, Ready, LinksGive};
 
 // A number of the memo, as a number of full width.
 fn wide(w: u16) -> usize
@@ -71,6 +72,27 @@ fn number_again(
         }
     }
     ids::number(text, table, offsets, count, heads, nexts, k)
+}
+
+// What was found as one number: one more than its node, 0 for nothing.
+fn note_of(found: Found) -> usize
+    requires { ⌜ Below found 9223372036854775808 ⌝ }
+    ensures { λ r. ⌜ toldOf r ≡ found ⌝ }
+{
+    let Found::At(i) = found else {
+        return 0;
+    };
+    i + 1
+}
+
+// What such a number tells.
+fn told(note: usize) -> Found
+    ensures { λ r. ⌜ r ≡ toldOf note ⌝ }
+{
+    if note == 0 {
+        return Found::Nothing;
+    }
+    Found::At(note - 1)
 }
 
 // Rule 15 of the value at node k, if it is a string, of a list of the object of number `row`: its object is there, and not yet in the row of the set. Then it is.
@@ -181,7 +203,7 @@ fn mark_found(
     )
 }
 
-// Rule 15 of the object of number k; afterwards the sets have what it lists.
+// Rule 15 of the object of number k; afterwards the sets have what it lists, and its lists are noted.
 fn mark_object(
     text: &[u8],
     table: &[u32],
@@ -190,18 +212,22 @@ fn mark_object(
     heads: &[u16; 4096],
     nexts: &[u16; 1024],
     memo: &mut [u16; 32784],
+    downs: &mut [usize; 1024],
+    ups: &mut [usize; 1024],
     children: &mut [u8],
     parents: &mut [u8],
     k: usize,
     best: u32,
 ) -> u32
-    requires { ⌜ (Numbered (now text) (now table) (now offsets) count (now heads) (now nexts)) × (k < count) × (count * 128 ≤ length (now children)) × (count * 128 ≤ length (now parents)) × (Kept (now text) (now table) (now offsets) count (now memo)) ⌝ }
-    ensures { λ r. ⌜ (ObjectMarks (now (text .entry)) (now (table .entry)) (now (offsets .entry)) count k (now (children .entry)) (now (children .exit)) (now (parents .entry)) (now (parents .exit)) best r) × (Kept (now (text .entry)) (now (table .entry)) (now (offsets .entry)) count (now (memo .exit))) ⌝ }
+    requires { ⌜ (Numbered (now text) (now table) (now offsets) count (now heads) (now nexts)) × (k < count) × (count * 128 ≤ length (now children)) × (count * 128 ≤ length (now parents)) × (Kept (now text) (now table) (now offsets) count (now memo)) × (Notes (now text) (now table) (now offsets) (now downs) (now ups) k) ⌝ }
+    ensures { λ r. ⌜ (ObjectMarks (now (text .entry)) (now (table .entry)) (now (offsets .entry)) count k (now (children .entry)) (now (children .exit)) (now (parents .entry)) (now (parents .exit)) best r) × (Kept (now (text .entry)) (now (table .entry)) (now (offsets .entry)) count (now (memo .exit))) × (Notes (now (text .entry)) (now (table .entry)) (now (offsets .entry)) (now (downs .exit)) (now (ups .exit)) (k + 1)) ⌝ }
 {
     let own = offsets[k];
     let i = own + 3;
     let below = nodes::member(text, table, i, b"children");
     let above = nodes::member(text, table, i, b"parents");
+    downs[k] = note_of(below);
+    ups[k] = note_of(above);
     let a = mark_found(
         text,
         table,
@@ -233,7 +259,7 @@ fn mark_object(
     )
 }
 
-// Rule 15 of all objects; afterwards the sets, which were empty, have what they list.
+// Rule 15 of all objects; afterwards the sets, which were empty, have what they list, and all lists are noted.
 fn mark_all(
     text: &[u8],
     table: &[u32],
@@ -242,12 +268,14 @@ fn mark_all(
     heads: &[u16; 4096],
     nexts: &[u16; 1024],
     memo: &mut [u16; 32784],
+    downs: &mut [usize; 1024],
+    ups: &mut [usize; 1024],
     children: &mut [u8],
     parents: &mut [u8],
     best: u32,
 ) -> u32
-    requires { ⌜ (Numbered (now text) (now table) (now offsets) count (now heads) (now nexts)) × (count * 128 ≤ length (now children)) × (count * 128 ≤ length (now parents)) × (Kept (now text) (now table) (now offsets) count (now memo)) ⌝ }
-    ensures { λ r. ⌜ (AllMarks (now (text .entry)) (now (table .entry)) (now (offsets .entry)) count (now (children .entry)) (now (children .exit)) (now (parents .entry)) (now (parents .exit)) best r) × (Kept (now (text .entry)) (now (table .entry)) (now (offsets .entry)) count (now (memo .exit))) ⌝ }
+    requires { ⌜ (Numbered (now text) (now table) (now offsets) count (now heads) (now nexts)) × (count * 128 ≤ length (now children)) × (count * 128 ≤ length (now parents)) × (Kept (now text) (now table) (now offsets) count (now memo)) × (Notes (now text) (now table) (now offsets) (now downs) (now ups) 0) ⌝ }
+    ensures { λ r. ⌜ (AllMarks (now (text .entry)) (now (table .entry)) (now (offsets .entry)) count (now (children .entry)) (now (children .exit)) (now (parents .entry)) (now (parents .exit)) best r) × (Kept (now (text .entry)) (now (table .entry)) (now (offsets .entry)) count (now (memo .exit))) × (Notes (now (text .entry)) (now (table .entry)) (now (offsets .entry)) (now (downs .exit)) (now (ups .exit)) count) ⌝ }
 {
     let mut least = best;
     let mut k = 0;
@@ -260,6 +288,8 @@ fn mark_all(
             heads,
             nexts,
             memo,
+            downs,
+            ups,
             children,
             parents,
             k,
@@ -470,18 +500,20 @@ fn answer_object(
     heads: &[u16; 4096],
     nexts: &[u16; 1024],
     memo: &[u16; 32784],
+    downs: &[usize; 1024],
+    ups: &[usize; 1024],
     children: &[u8],
     parents: &[u8],
     k: usize,
     best: u32,
 ) -> u32
-    requires { ⌜ (Numbered (now text) (now table) (now offsets) count (now heads) (now nexts)) × (Filled (now text) (now table) (now offsets) count (now children) (now parents)) × (k < count) × (Kept (now text) (now table) (now offsets) count (now memo)) × (Alone (now text) (now table) (now offsets) count) ⌝ }
+    requires { ⌜ (Numbered (now text) (now table) (now offsets) count (now heads) (now nexts)) × (Filled (now text) (now table) (now offsets) count (now children) (now parents)) × (k < count) × (Kept (now text) (now table) (now offsets) count (now memo)) × (Notes (now text) (now table) (now offsets) (now downs) (now ups) count) × (Alone (now text) (now table) (now offsets) count) ⌝ }
     ensures { λ r. ⌜ ObjectOpens (now (text .entry)) (now (table .entry)) (now (offsets .entry)) count k best r ⌝ }
 {
     let name = offsets[k];
     let i = name + 3;
-    let down = nodes::member(text, table, i, b"children");
-    let up = nodes::member(text, table, i, b"parents");
+    let down = told(downs[k]);
+    let up = told(ups[k]);
     let a = answer_children(
         text,
         table,
@@ -521,11 +553,13 @@ fn answer_all(
     heads: &[u16; 4096],
     nexts: &[u16; 1024],
     memo: &[u16; 32784],
+    downs: &[usize; 1024],
+    ups: &[usize; 1024],
     children: &[u8],
     parents: &[u8],
     best: u32,
 ) -> u32
-    requires { ⌜ (Numbered (now text) (now table) (now offsets) count (now heads) (now nexts)) × (Filled (now text) (now table) (now offsets) count (now children) (now parents)) × (Kept (now text) (now table) (now offsets) count (now memo)) × (Alone (now text) (now table) (now offsets) count) ⌝ }
+    requires { ⌜ (Numbered (now text) (now table) (now offsets) count (now heads) (now nexts)) × (Filled (now text) (now table) (now offsets) count (now children) (now parents)) × (Kept (now text) (now table) (now offsets) count (now memo)) × (Notes (now text) (now table) (now offsets) (now downs) (now ups) count) × (Alone (now text) (now table) (now offsets) count) ⌝ }
     ensures { λ r. ⌜ AllOpens (now (text .entry)) (now (table .entry)) (now (offsets .entry)) count best r ⌝ }
 {
     let mut least = best;
@@ -539,6 +573,8 @@ fn answer_all(
             heads,
             nexts,
             memo,
+            downs,
+            ups,
             children,
             parents,
             k,
@@ -565,6 +601,8 @@ fn links_with(
     let mut heads: [u16; 4096] = [0; 4096];
     let mut nexts: [u16; 1024] = [0; 1024];
     let mut memo: [u16; 32784] = [0; 32784];
+    let mut downs: [usize; 1024] = [0; 1024];
+    let mut ups: [usize; 1024] = [0; 1024];
     ids::fill(text, table, offsets, count, &mut heads, &mut nexts);
     let a = mark_all(
         text,
@@ -574,6 +612,8 @@ fn links_with(
         &heads,
         &nexts,
         &mut memo,
+        &mut downs,
+        &mut ups,
         children,
         parents,
         best,
@@ -586,6 +626,8 @@ fn links_with(
         &heads,
         &nexts,
         &memo,
+        &downs,
+        &ups,
         children,
         parents,
         a,

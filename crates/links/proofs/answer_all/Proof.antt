@@ -6,10 +6,10 @@ use Rattle.links.proofs.answer_all.Statement.{statement}
 use Rattle.links.proofs.answer_all.Tie as tie
 
 abbrev Inv-loop : tie.InvT-loop
-Inv-loop text table offsets count heads nexts memo children parents best least₀ k₀ least k = Opening text table offsets count best k least
+Inv-loop text table offsets count heads nexts memo downs ups children parents best least₀ k₀ least k = Opening text table offsets count best k least
 
 abbrev μ-loop : tie.MeasureT-loop
-μ-loop text table offsets count heads nexts memo children parents best least₀ k₀ least k = count - k
+μ-loop text table offsets count heads nexts memo downs ups children parents best least₀ k₀ least k = count - k
 
 pub answer-all-spec : {M : Type 1} → statement M
 answer-all-spec =
