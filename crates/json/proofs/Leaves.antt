@@ -16,13 +16,13 @@ use Rattle.json.specs.Machine.{Frame, Mode, value, step, go, bad, isBlan
 use Rattle.json.specs.Machine.Role.{name}
 use Rattle.json.specs.Machine.Mode.{want, name1, colon, neg, nought, int, mant, chars}
 use Rattle.json.specs.Table.{size, Words, Quoted, isNumeric, Sub, null, bool, num, str}
-use Rattle.json.specs.Says.{from, Within, Reads, Skips, blanks, digital, numbered, charsOf, closedOf, ReadsString, WordAt, literalOf, ReadsWord, Placed, Fits, Wrote, Quote, Leaf, Scalar, Digits, Ready, Atom, Names}
+use Rattle.json.specs.Says.{from, Within, Reads, Stays, Skips, blanks, digital, numbered, charsOf, closedOf, ReadsString, WordAt, literalOf, ReadsWord, Placed, Fits, Wrote, Quote, Leaf, Scalar, Digits, Ready, Atom, Names}
 use Rattle.json.specs.declared.Scan.{Scan}
 use Rattle.json.specs.declared.Scan.the-variants.{End, Bad}
 use Rattle.json.specs.declared.Walk.the-variants as walk
 use Rattle.json.specs.Steps.{nought-else, want-quote, want-minus, want-0, want-digit, want-t, want-f, want-n, want-no, name-quote, name-no, colon-yes, colon-no}
 use Rattle.json.proofs.Bytes.{over-blank, is-digit, under-digit, over-digit}
-use Rattle.json.proofs.Moves.{moves, dies, short}
+use Rattle.json.proofs.Moves.{moves, dies, short, stays-none}
 use Rattle.json.proofs.Parts.{looks, int-digits, mant-done}
 
 -- three words are written at n
@@ -209,6 +209,26 @@ module _ {x : List ℕ} {at i : ℕ} (k : Skips blanks isBlank x at i) where
       unfolding charsOf closedOf
       called p ms ks = k .stays .same (name1 p ms) tt ks ∙ moves x (name1 p ms) ks i (chars (name p ms) i) ks l (name-quote 32 x i _ b p ms ks) ∙ (rw q at (s .reads .same (record { role = name p ms; begun = i }) ks))
 
+      -- its colon, after blanks or at once
+      module _ {j : ℕ} (y : Stays blanks x e j) where
+        colon-at : (t₀ t : List ℕ) (n : ℕ) → j < length x → getD x j 0 ≡ 58 → Wrote t₀ t n i e (n + 3) → Names x t₀ t at n (End (j + 1))
+        unfolding Names
+        colon-at t₀ t n h c w =
+            let lo = string-low s q in
+            let hi = string-high s q in
+            record {
+              key = record { place = i; end = e; raw = slice (i + 1) (e - 1) x };
+              stands = quoted-of (w .placed) (omega arith) hi b;
+              goes = λ p ms ks. called p ms ks ∙ y .same _ tt ks ∙ moves x _ ks j _ _ h (colon-yes 32 x j _ c p ms _ ks);
+              more = omega (arith, k .stays .low, y .low);
+              inside = omega arith;
+              long = w .long;
+              below = w .below;
+            }
+
+      pub named-at-once : (t₀ t : List ℕ) (n : ℕ) → e < length x → getD x e 0 ≡ 58 → Wrote t₀ t n i e (n + 3) → Names x t₀ t at n (End (e + 1))
+      named-at-once t₀ t n h c w = colon-at (stays-none blanks x e (string-high s q)) t₀ t n h c w
+
       module _ {j : ℕ} (k₂ : Skips blanks isBlank x e j) where
         pub colon-out : (t₀ t : List ℕ) (n : ℕ) → length x ≤ j → Names x t₀ t at n (Bad j)
         unfolding Names
@@ -219,16 +239,4 @@ module _ {x : List ℕ} {at i : ℕ} (k : Skips blanks isBlank x at i) where
         colon-wrong t₀ t n h c = λ p ms ks. called p ms ks ∙ k₂ .stays .same _ tt ks ∙ dies x _ ks j h (colon-no 32 x j _ (k₂ .stop h) c p ms _ ks)
 
         pub named : (t₀ t : List ℕ) (n : ℕ) → j < length x → getD x j 0 ≡ 58 → Wrote t₀ t n i e (n + 3) → Names x t₀ t at n (End (j + 1))
-        unfolding Names
-        named t₀ t n h c w =
-            let lo = string-low s q in
-            let hi = string-high s q in
-            record {
-              key = record { place = i; end = e; raw = slice (i + 1) (e - 1) x };
-              stands = quoted-of (w .placed) (omega arith) hi b;
-              goes = λ p ms ks. called p ms ks ∙ k₂ .stays .same _ tt ks ∙ moves x _ ks j _ _ h (colon-yes 32 x j _ c p ms _ ks);
-              more = omega (arith, k .stays .low, k₂ .stays .low);
-              inside = omega arith;
-              long = w .long;
-              below = w .below;
-            }
+        named t₀ t n h c w = colon-at (k₂ .stays) t₀ t n h c w

@@ -433,7 +433,7 @@ fn text_node(text: &[u8], at: usize, table: &mut [u32], n: usize) -> Walk
     }
 }
 
-// The name of a member with its colon, and its node at n.
+// The name of a member with its colon, which mostly follows at once, and its node at n.
 fn member_name(text: &[u8], at: usize, table: &mut [u32], n: usize) -> Scan
     requires { ⌜ Ready (now text) (now table) at 0 32 n ⌝ }
     ensures { λ r. ⌜ Names (now (text .entry)) (now (table .entry)) (now (table .exit)) at n r ⌝ }
@@ -450,6 +450,11 @@ fn member_name(text: &[u8], at: usize, table: &mut [u32], n: usize) -> Scan
         Scan::Bad(q) => Scan::Bad(q),
         Scan::End(e) => {
             put_node(table, n, i, e, n + 3);
+            if e < text.len() {
+                if text[e] == b':' {
+                    return Scan::End(e + 1);
+                }
+            }
             let j = skip_blanks(text, e);
             if j >= text.len() {
                 return Scan::Bad(j);
