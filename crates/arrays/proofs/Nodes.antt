@@ -1,7 +1,7 @@
 -- Numbers and arrays at a node, from what the code's tests and callees say. Assumes nothing.
-use Prim.Native.Nat.{ℕ, zero, suc, _+_, _-_, _≤_, _<_}
+use Prim.Native.Nat.{ℕ, zero, suc, _+_, _-_, _≤_}
 use native.Mathlib.Omega.{arith}
-use mathlib.Core.Path.{_≡_, refl, sym, ap, _∙_, subst}
+use mathlib.Core.Path.{_≡_, refl, sym, ap, _∙_}
 use mathlib.Core.Bool.{Bool, true, false, not}
 use mathlib.Core.List.{List, [], _++_, append-nil}
 use mathlib.Core.Option.{Option, some}
@@ -21,10 +21,10 @@ use Rattle.numerals.specs.declared.Numeral.the-variants as variant
 use Rattle.numerals.specs.declared.Whole.{Whole}
 use Rattle.json.specs.Tree.{Json}
 use Rattle.json.specs.Table.{Sub}
-use Rattle.json.specs.Laws.{words}
 use Rattle.nodes.specs.Access.{isNullValue, isNumberValue, isArrayValue, elements, numeralOf}
-use Rattle.nodes.specs.Says.{Node, Gives}
+use Rattle.nodes.specs.Says.{Gives}
 use Rattle.nodes.specs.Laws.{NumeralAt, numeral-at, no-elements}
+use Rattle.shapes.specs.Laws.{integer-number}
 use Rattle.model.specs.Code.{le, signed, each}
 use Rattle.model.specs.Model.{layThree, layDecimal, layNest, layValue, layValues}
 use Rattle.model.specs.Read.{natural, zeroIfNone, decimalOf, integerOf, indexOf, valueOf, threeOf, nestOf}
@@ -34,8 +34,8 @@ use Rattle.writer.specs.Writes.{Writes, Skips, twos}
 use Rattle.writer.specs.Laws.{then, as-bytes, numbered, wrote-signed}
 use Rattle.arrays.specs.Fits.{Pair, Coordinate, Index, Value, Elements, Triple, Leaves}
 use Rattle.arrays.specs.Says.{Holds, Wrote}
-use Rattle.arrays.specs.Laws.{holds-as, wrote-as, wrote-then, wrote-told}
-use Rattle.arrays.specs.Parts.{three-each, nest-parts, values-parts, pair-read, index-read, coordinate-read, integer-number, value-null, value-index}
+use Rattle.arrays.specs.Laws.{holds-as, wrote-as, wrote-told}
+use Rattle.arrays.specs.Parts.{three-each, nest-parts, values-parts, pair-read, index-read, coordinate-read, value-null, value-index}
 
 -- a number
 unfoldable pub Number : Json → Type 0

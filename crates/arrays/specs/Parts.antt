@@ -2,28 +2,27 @@
 use Prim.Native.Nat.{ℕ, zero, suc, _+_, _-_, _^_, _<_}
 use native.Mathlib.Omega.{arith}
 use mathlib.Core.Path.{_≡_, refl, sym, ap, _∙_}
-use mathlib.Core.Bool.{Bool, true, false, cond, _&&_}
+use mathlib.Core.Bool.{Bool, true, false, cond}
 use mathlib.Core.List.{List, [], _∷_, _++_, map, append-assoc, append-nil}
-use mathlib.Core.Option.{Option, some}
+use mathlib.Core.Option.{some}
 use mathlib.Core.Option as option
 use lib.ListN.{length, getD, length-map}
 use lib.IntN.{ℤ, pos, negsuc}
 use borrow.Author.Tests.{ltb-true}
-use Rattle.utf8.specs.Laws.{both-left, never}
-use Rattle.numerals.specs.Numerals.{Decimal, decimal, inRange, pairOf, integer, fits32, isBelow, digits, natural, negative}
+use Rattle.utf8.specs.Laws.{never}
+use Rattle.numerals.specs.Numerals.{decimal, inRange, pairOf, integer, fits32, isBelow, digits, natural, negative}
 use Rattle.numerals.specs.Numerals as numerals
 use Rattle.numerals.specs.Reading.{saturated}
 use Rattle.json.specs.Tree.{Json, null, bool, num, str, arr, obj}
 use Rattle.nodes.specs.Access.{isNullValue, isNumberValue, elements, numeralOf}
-use Rattle.shapes.specs.Shapes.{isPair, isIntegerValue}
+use Rattle.shapes.specs.Shapes.{isPair}
 use Rattle.model.specs.Code.{le, signed, each, Holds}
 use Rattle.model.specs.Good.{GoodDecimal}
-use Rattle.model.specs.Model.{layThree, layNest, layValue, layValues}
+use Rattle.model.specs.Model.{layThree, layNest, layValues}
 use Rattle.model.specs.Read.{numberOf, zeroIfNone, decimalOf, integerOf, indexOf, valueOf, threeOf, nestOf}
 use Rattle.model.specs.Read as read
 use Rattle.sheets.specs.Numbers.{integer-read, pair-good}
-use Rattle.writer.specs.Writes.{twos}
-use Rattle.arrays.specs.Fits.{Pair, Coordinate, Index, Value}
+use Rattle.arrays.specs.Fits.{Pair, Coordinate, Index}
 
 -- reading and writing each element is one pass
 pub each-map : {A B : Type 0} (enc : B → List ℕ) (f : A → B) (l : List A) → each enc (map f l) ≡ each (λ a. enc (f a)) l
@@ -97,11 +96,6 @@ unfolding Coordinate
 coordinate-read v h =
     let e = integer-read v (h .0) in
     (e, rw e (small-holds (integer (numeralOf v)) (h .1)))
-
--- an integer value is a number
-pub integer-number : (v : Json) → isIntegerValue v ≡ true → isNumberValue v ≡ true
-unfolding isIntegerValue
-integer-number v h = both-left (isNumberValue v) _ h
 
 -- a semantic value
 pub value-null : (v : Json) → isNullValue v ≡ true → valueOf v ≡ option.none

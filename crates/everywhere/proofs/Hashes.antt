@@ -1,44 +1,16 @@
 -- The number of the bytes that a string stands for, byte by byte. Assumes nothing.
 use Prim.Native.Nat.{ℕ, _+_, _*_, _%_, _≤_, _<_}
-use mathlib.Core.Path.{_≡_, refl, sym, ap, _∙_}
+use mathlib.Core.Path.{_≡_, refl, sym, _∙_}
 use mathlib.Core.List.{List, [], _∷_}
-use native.Mathlib.Numerals.{add-one}
 use native.Mathlib.Omega.{arith}
-use lib.ListN.{getD, take, drop-of-length-le}
-use lib.Seq.{slice, slice-cons, length-take-le}
+use lib.ListN.{getD}
 use borrow.Author.Needs.{needs}
-use borrow.Author.Tests.{ne-eqb}
-use Rattle.strings.specs.Strings.{next, ended, pieces, decoded, decode}
-use Rattle.strings.specs.Spans.{Span, decodeAt, ahead, away, Steps, Hands}
-use Rattle.strings.specs.Laws.{ahead-start, decoded-anywhere}
+use Rattle.strings.specs.Spans.{Span, decodeAt, ahead, Steps}
+use Rattle.strings.specs.Laws.{onward, at-plain, at-end, step-done, step-byte, step-span, step-nearer, ahead-start}
 use Rattle.strings.specs.declared.Cursor.{Cursor}
 use Rattle.strings.specs.declared.Step.{Step}
 use Rattle.strings.specs.declared.Step.the-variants.{Byte, Done}
 use Rattle.everywhere.specs.Chains.{hashFrom, chainOf}
-
--- a byte that is no backslash stands for itself
-plain-byte : (b : ℕ) (s : List ℕ) → (b ≡ 92 → ⊥) → decode (b ∷ s) ≡ b ∷ decode s
-unfolding decode pieces ended next decoded
-plain-byte b s n = rw (ne-eqb b 92 n, decoded-anywhere 1 0 s)
-
-nothing : decode [] ≡ []
-unfolding decode pieces decoded
-nothing = refl
-
-module _ {x : List ℕ} {at end : ℕ} (s : Span x at end) where
-  cross : at < end → slice at end x ≡ getD x at 0 ∷ slice (at + 1) end x
-  cross l = rw (add-one at) (slice-cons at end x 0 l (s .high))
-
-  at-plain : at < end → (getD x at 0 ≡ 92 → ⊥) → decodeAt x at end ≡ getD x at 0 ∷ decodeAt x (at + 1) end
-  unfolding decodeAt
-  at-plain l n = ap decode (cross l) ∙ plain-byte (getD x at 0) (slice (at + 1) end x) n
-
-  at-end : end ≤ at → decodeAt x at end ≡ []
-  unfolding decodeAt
-  at-end l = ap decode (drop-of-length-le (take end x) {i = at} (rw (length-take-le end x (s .high)) l)) ∙ nothing
-
-  pub onward : at < end → Span x (at + 1) end
-  onward l = record { low = omega arith; high = s .high }
 
 -- bytes whose number is all: those before l have the number h
 pub record Hashing (all : ℕ) (l : List ℕ) (h : ℕ) : Type 0 where
@@ -71,22 +43,10 @@ module _ {x : List ℕ} {at end : ℕ} (s : Span x at end) {all h : ℕ} (c : Ha
 -- at a byte that the cursor hands out
 module _ (x m : List ℕ) (n : ℕ) (s : Step) (h : Steps x m n s) where
   pub step-end : {all g : ℕ} → s ≡ Done → Hashing all m g → g ≡ all
-  unfolding Steps
-  step-end q c = hashing-end c (rw q at h)
+  step-end q c = hashing-end c (step-done x m n s h q)
 
-  module _ (b : ℕ) (d : Cursor) (q : s ≡ Byte b d) where
-    hands : Hands x m n b d
-    unfolding Steps
-    hands = rw q at h
-
-    pub step-span : Span x (d .at) (d .end)
-    step-span = hands .span
-
-    pub step-nearer : away d < n
-    step-nearer = hands .nearer
-
-    pub step-more : {all g r : ℕ} → Hashing all m g → r ≡ (g * 59 + b) % 67108864 → r < 67108864 → Hashing all (ahead x d) r
-    step-more c = hashing-more c _ _ _ (hands .first)
+  pub step-more : (b : ℕ) (d : Cursor) → s ≡ Byte b d → {all g r : ℕ} → Hashing all m g → r ≡ (g * 59 + b) % 67108864 → r < 67108864 → Hashing all (ahead x d) r
+  step-more b d q c = hashing-more c _ _ _ (step-byte x m n s h b d q)
 
 pub chain-is : (l : List ℕ) (h r : ℕ) → h ≡ hashFrom 0 l → r ≡ h % 4096 → r ≡ chainOf l
 unfolding chainOf

@@ -10,12 +10,12 @@ use lib.Dec.{eqb}
 use borrow.Author.Needs.{needs}
 use borrow.Author.Tests.{eqb-true, eqb-false, not-true, not-false}
 use Rattle.utf8.specs.Utf8.{same}
-use Rattle.utf8.specs.Laws.{same-equal}
 use Rattle.strings.specs.Spans.{Span, decodeAt}
 use Rattle.nodes.specs.Faults.{fault, least}
 use Rattle.everywhere.specs.Everywhere.{among}
 use Rattle.nodes.specs.Laws.{StringAt}
 use Rattle.everywhere.specs.Parts.{textAt}
+use Rattle.everywhere.specs.Laws.{other-text}
 use Rattle.everywhere.specs.Chains.{chainOf, kept, Link, Chained, end, link, Chains, ChainNode, InChain, ChainAt, ChainGives}
 use Rattle.nodes.specs.Walks.{string-first, string-second, string-some, string-fits, string-span, string-low}
 
@@ -96,11 +96,6 @@ module _ {x t ls : List ℕ} {head k : ℕ} where
 
     pub follow-done : e ≡ 0 → InChain x t ls head k false
     follow-done z = record { is = λ us h. sym (finished (c .left us h) z) }
-
--- the texts of the other chains are other texts
-other-text : (u w : List ℕ) (b : Bool) → same u w ≡ b → (chainOf u ≡ chainOf w → ⊥) → b ≡ false
-other-text u w true e n = absurd (n (ap chainOf (same-equal u w e)))
-other-text u w false e n = refl
 
 kept-if : (c : ℕ) (w u : List ℕ) (us : List (List ℕ)) (b : Bool) → eqb (chainOf u) c ≡ b → c ≡ chainOf w → among (kept c us) w ≡ among us w → among (cond b (u ∷ kept c us) (kept c us)) w ≡ (same u w || among us w)
 unfolding among

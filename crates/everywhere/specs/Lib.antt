@@ -3,3 +3,4 @@ pub mod Everywhere
 pub mod Examples
 pub mod Parts
 pub mod Chains
+pub mod Laws

@@ -3,26 +3,20 @@ use Prim.Native.Nat.{ℕ, _+_, _*_, _-_, _^_, _≤_, _<_}
 use native.Mathlib.Omega.{arith}
 use mathlib.Core.Path.{_≡_, refl, sym, ap, _∙_, subst}
 use mathlib.Core.Bool.{Bool, true, false, not}
-use mathlib.Core.List.{List, [], _∷_}
+use mathlib.Core.List.{List, []}
 use mathlib.Core.Option.{Option, none, some}
-use Prim.Native.String.{String}
 use lib.ListN.{length, getD}
 use mir.Syntax.{w64}
 use mir.Val.{Fits}
 use borrow.Author.Tests.{not-true, not-false}
-use Rattle.utf8.specs.Utf8.{same}
 use Rattle.strings.specs.Spans.{Span, decodeAt}
-use Rattle.words.specs.Words.{codeOf, codeFrom, objectWords, geometryWords}
 use Rattle.json.specs.Tree.{Json}
-use Rattle.json.specs.Table.{Sub}
-use Rattle.json.specs.Laws.{words}
-use Rattle.nodes.specs.Access.{isStringValue, textOf, elements}
+use Rattle.nodes.specs.Access.{isStringValue, textOf}
 use Rattle.nodes.specs.Says.{Node, Sought, Seeks, Finds, Gives, GivesFound}
 use Rattle.nodes.specs.Walks.{node-room, node-onward}
 use Rattle.nodes.specs.Laws.{StringAt, rawOf, string-at, text-at}
 use Rattle.nodes.specs.declared.Found.{Found}
 use Rattle.nodes.specs.declared.Found.the-variants.{At, Nothing}
-use Rattle.fields.specs.Fields.{textIn, countIn}
 use Rattle.fields.specs.Says.{StringNode}
 
 module _ {x t : List ℕ} {found : Found} where

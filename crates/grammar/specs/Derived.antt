@@ -10,7 +10,7 @@ use mathlib.Core.List.{List, [], _∷_}
 use mathlib.Core.Logic.{_⊎_, inl, inr}
 use lib.ListN.{length}
 use lib.Dec.{leb}
-use borrow.Author.Tests.{leb-true, ne-eqb, lt-leb, le-leb}
+use borrow.Author.Tests.{leb-true}
 use Rattle.utf8.specs.Ascii.{ascii}
 use Rattle.json.specs.Tree.{Json, Items, _◂_, Members}
 use Rattle.json.specs.Tree as tree
@@ -19,6 +19,7 @@ use Rattle.json.specs.Machine.Role.{name}
 use Rattle.json.specs.Machine.Mode.{want, first, name0, name1, got, chars, neg, nought, int, frac, mant, exp, exps, lit}
 use Rattle.json.specs.Grammar.{At, Text, nameAt}
 use Rattle.json.specs.Grammar as g
+use Rattle.json.specs.Laws.{over-blank, over-digit}
 use Rattle.json.specs.Steps as st
 use Rattle.grammar.specs.Induction.{Below, by-levels}
 use Rattle.grammar.specs.Joins.{_⊕_, items-none, _⊞_, members-empty}
@@ -34,16 +35,6 @@ pub digit-range : (b : ℕ) → true ≡ isDigit b → (48 ≤ b) × (b ≤ 57)
 unfolding isDigit
 digit-range b e = let h = both (leb 48 b) (leb b 57) e in (leb-true 48 b (h .0), leb-true b 57 (h .1))
 
--- bytes past them are none
-pub no-digit : (b : ℕ) → 57 < b → false ≡ isDigit b
-unfolding isDigit
-no-digit b h = rw (le-leb 48 b (omega arith), lt-leb b 57 h)
-
--- bytes past 32 are no white space
-pub no-blank : (b : ℕ) → 32 < b → false ≡ isBlank b
-unfolding isBlank
-no-blank b h = rw (ne-eqb b 32 (λ e. omega arith), ne-eqb b 10 (λ e. omega arith), ne-eqb b 13 (λ e. omega arith), ne-eqb b 9 (λ e. omega arith))
-
 -- the rest of a word, or what follows it
 abbrev pub spelled : ℕ → Option Bool → List ℕ → ℕ → Mode
 spelled p l [] n = got (literal l p n)
@@ -57,9 +48,9 @@ module _ (most : ℕ) (x : List ℕ) where
 
   -- bytes that follow no value
   got-no : (v : Json) (ks : List Frame) (n b : ℕ) → 32 < b → (b ≡ 44 → ⊥) → (b ≡ 93 → ⊥) → (b ≡ 125 → ⊥) → step most x (got v) ks n b ≡ dead
-  got-no v [] n b h h44 h93 h125 = st.got-end most x n b (no-blank b h) v
-  got-no v (array p vs ∷ ks) n b h h44 h93 h125 = st.array-no most x n b v p vs ks (no-blank b h) h44 h93
-  got-no v (object p ms k ∷ ks) n b h h44 h93 h125 = st.object-no most x n b v p ms k ks (no-blank b h) h44 h125
+  got-no v [] n b h h44 h93 h125 = st.got-end most x n b (over-blank b h) v
+  got-no v (array p vs ∷ ks) n b h h44 h93 h125 = st.array-no most x n b v p vs ks (over-blank b h) h44 h93
+  got-no v (object p ms k ∷ ks) n b h h44 h93 h125 = st.object-no most x n b v p ms k ks (over-blank b h) h44 h125
 
   module _ (ks : List Frame) (p n b : ℕ) where
     got-digit : true ≡ isDigit b → step most x (got (numeral most x p n)) ks n b ≡ dead
@@ -155,7 +146,7 @@ module _ {most : ℕ} {x : List ℕ} {t : Json} where
   -- a whole part with no sign
   want-int⁺ : (p : ℕ) (ks : List Frame) {e : ℕ} → g.Int x p e → Acc most x t (nought p) ks e → Acc most x t want ks p
   want-int⁺ p ks (g.Int.nought q) a = pass q (st.want-0 most x p 48 refl ks) a
-  want-int⁺ p ks (g.Int.digits {b = b} q h d w) a = let r = digit-range b d in pass q (st.want-digit most x p b (no-blank b (omega arith)) h d (r .0) (r .1) ks) (digits⁺ w d-int (to-int a))
+  want-int⁺ p ks (g.Int.digits {b = b} q h d w) a = let r = digit-range b d in pass q (st.want-digit most x p b (over-blank b (omega arith)) h d (r .0) (r .1) ks) (digits⁺ w d-int (to-int a))
 
   -- a numeral
   number⁺ : (p : ℕ) (ks : List Frame) {e : ℕ} → g.Number x p e → Acc most x t (got (numeral most x p e)) ks e → Acc most x t want ks p
@@ -216,13 +207,13 @@ module _ {most : ℕ} {x : List ℕ} {t : Json} where
   first⁺ : {p : ℕ} {ks : List Frame} {n : ℕ} → Acc most x t want (array p tree.none ∷ ks) n → Acc most x t (first p) ks n
   first⁺ {p} {ks} =
       opens 93 b-want b-first (λ n. refl)
-      (λ n. st.want-no most x n 93 (no-blank 93 (omega arith)) (λ q. omega arith) (λ q. omega arith) (λ q. omega arith) (λ q. omega arith) (λ q. omega arith) (λ q. omega arith) (λ q. omega arith) (λ q. omega arith) (no-digit 93 (omega arith)) (array p tree.none ∷ ks))
+      (λ n. st.want-no most x n 93 (over-blank 93 (omega arith)) (λ q. omega arith) (λ q. omega arith) (λ q. omega arith) (λ q. omega arith) (λ q. omega arith) (λ q. omega arith) (λ q. omega arith) (λ q. omega arith) (over-digit 93 (omega arith)) (array p tree.none ∷ ks))
       (λ n b w h. st.first-else most x n b w h p ks) refl refl
 
   -- what may follow an object's brace
   name⁺ : {p : ℕ} {ks : List Frame} {n : ℕ} → Acc most x t (name1 p tree.empty) ks n → Acc most x t (name0 p) ks n
   name⁺ {p} {ks} =
-      opens 125 b-name1 b-name0 (λ n. refl) (λ n. st.name-no most x n 125 (no-blank 125 (omega arith)) (λ q. omega arith) p tree.empty ks) (λ n b w h. st.name0-else most x n b w h p ks) refl refl
+      opens 125 b-name1 b-name0 (λ n. refl) (λ n. st.name-no most x n 125 (over-blank 125 (omega arith)) (λ q. omega arith) p tree.empty ks) (λ n b w h. st.name0-else most x n b w h p ks) refl refl
 
   -- a name and its colon, up to the value
   key⁺ : (p : ℕ) (ms : Members) (ks : List Frame) {n q f c v : ℕ} → g.Ws x n q → At x q 34 → g.Chars x (q + 1) f → g.Ws x f c → At x c 58 → g.Ws x (c + 1) v

@@ -1,46 +1,14 @@
 -- The rule of the bits of a byte, by a test that antt computes at each byte and each bit. Assumes nothing.
-use Prim.Native.Nat.{ℕ, zero, suc, _+_, _/_, _%_, _^_, _<_}
-use native.Mathlib.Omega.{arith}
-use mathlib.Core.Path.{_≡_, refl, sym}
+use Prim.Native.Nat.{ℕ, _+_, _^_, _<_}
+use mathlib.Core.Path.{_≡_, refl}
 use mathlib.Core.Bool.{Bool, true, false, not, _&&_, _||_}
-use mathlib.Core.List.{List, [], _∷_}
+use mathlib.Core.List.{[], _∷_}
 use lib.ListN.{getD}
 use lib.Dec.{eqb, ltb}
 use borrow.Author.Tests.{ltb-true, eqb-true}
+use Rattle.utf8.specs.Laws.{both-left, both-right}
+use Rattle.utf8.specs.Finite.{each, each-below, agree, agree-equal}
 use Rattle.grid.specs.Grid.{bit}
-
-both-left : (a b : Bool) → (a && b) ≡ true → a ≡ true
-both-left true b e = refl
-both-left false b e = e
-
-both-right : (a b : Bool) → (a && b) ≡ true → b ≡ true
-both-right true b e = e
-both-right false true e = refl
-both-right false false e = e
-
--- does a test pass at each of the n numbers from i on?
-abbrev each : (ℕ → Bool) → ℕ → ℕ → Bool
-each f i zero = true
-each f i (suc n) = f i && each f (suc i) n
-
--- then it passes at one of them
-each-from : (f : ℕ → Bool) (i n k : ℕ) → each f i n ≡ true → k < n → f (i + k) ≡ true
-each-from f i zero k e h = absurd (omega arith)
-each-from f i (suc n) zero e h = let z : i + 0 ≡ i = omega arith in rw z (both-left (f i) _ e)
-each-from f i (suc n) (suc k) e h = let z : i + suc k ≡ suc i + k = omega arith in rw z (each-from f (suc i) n k (both-right (f i) _ e) (omega arith))
-
-each-below : (f : ℕ → Bool) (n k : ℕ) → each f 0 n ≡ true → k < n → f k ≡ true
-each-below f n k e h = let z : k ≡ 0 + k = omega arith in rw z (each-from f 0 n k e h)
-
--- do two truth values agree?
-abbrev agree : Bool → Bool → Bool
-agree true b = b
-agree false b = not b
-
-agree-equal : (a b : Bool) → agree a b ≡ true → a ≡ b
-agree-equal true b e = sym e
-agree-equal false true e = e
-agree-equal false false e = refl
 
 -- is a byte whose bit k is not set a byte with that bit besides if 2 ^ k is added?
 abbrev adds : Bool → ℕ → ℕ → Bool

@@ -10,10 +10,10 @@ use lib.Seq.{drop-cons, getD-set-same, getD-set-other}
 use lib.Dec.{eqb}
 use borrow.Author.Tests.{eqb-true, eqb-false}
 use Rattle.utf8.specs.Utf8.{same}
-use Rattle.utf8.specs.Laws.{same-equal}
 use Rattle.strings.specs.Spans.{decodeAt}
 use Rattle.nodes.specs.Access.{Member, nameOf}
 use Rattle.everywhere.specs.Chains.{chainOf}
+use Rattle.everywhere.specs.Laws.{other-text}
 use Rattle.everywhere.specs.Parts.{textAt}
 use Rattle.model.specs.Model.{numberOf}
 use Rattle.ids.specs.Says.{TextNode, Offsets, Objects, namesOf, Numbers, headFrom, ChainsFrom, Chains, Puts}
@@ -126,11 +126,6 @@ module _ {x t offsets : List ℕ} {count : ℕ} {heads nexts : List ℕ} where
     filling-done h = let z : k ≡ 0 = omega arith in record { heads-room = f .heads-room; nexts-room = f .nexts-room; is = λ ms o. rw (← z) (f .is ms o) }
 
 -- ---- following one
-
--- texts of other chains are other texts
-other-text : (u w : List ℕ) (b : Bool) → same u w ≡ b → (chainOf u ≡ chainOf w → ⊥) → b ≡ false
-other-text u w true e n = absurd (n (ap chainOf (same-equal u w e)))
-other-text u w false e n = refl
 
 -- e tells the first of the texts us from the k-th on that goes to the chain of w: none before it is w
 record Lead (us : List (List ℕ)) (w : List ℕ) (k e : ℕ) : Type 0 where

@@ -7,7 +7,8 @@ use lib.Dec.{eqb}
 use native.Mathlib.Omega.{arith}
 use borrow.Author.Tests.{ne-eqb, le-leb, lt-leb}
 use borrow.Author.Needs.{needs}
-use Rattle.json.specs.Machine.{isBlank, isDigit, isHex, isEscape}
+use Rattle.json.specs.Machine.{isBlank, isHex, isEscape}
+use Rattle.json.specs.Laws.{over-blank, is-digit, under-digit, over-digit}
 
 module _ (b : ℕ) where
   pub blank-32 : b ≡ 32 → true ≡ isBlank b
@@ -22,25 +23,9 @@ module _ (b : ℕ) where
   unfolding isBlank
   blank-13 e = rw e
 
-pub over-blank : (b : ℕ) → 32 < b → false ≡ isBlank b
-unfolding isBlank
-over-blank b h = rw (ne-eqb b 32 (λ e. omega arith), ne-eqb b 10 (λ e. omega arith), ne-eqb b 13 (λ e. omega arith), ne-eqb b 9 (λ e. omega arith))
-
 pub no-blank : (b : ℕ) → (b ≡ 32 → ⊥) → (b ≡ 10 → ⊥) → (b ≡ 13 → ⊥) → eqb b 9 ≡ isBlank b
 unfolding isBlank
 no-blank b h32 h10 h13 = rw (ne-eqb b 32 h32, ne-eqb b 10 h10, ne-eqb b 13 h13)
-
-pub is-digit : (b : ℕ) → 48 ≤ b → b < 58 → true ≡ isDigit b
-unfolding isDigit
-is-digit b l h = rw (le-leb 48 b l, le-leb b 57 (omega arith))
-
-pub under-digit : (b : ℕ) → b < 48 → false ≡ isDigit b
-unfolding isDigit
-under-digit b l = rw (lt-leb 48 b l)
-
-pub over-digit : (b : ℕ) → 48 ≤ b → 57 < b → false ≡ isDigit b
-unfolding isDigit
-over-digit b l h = rw (le-leb 48 b l, lt-leb b 57 h)
 
 pub hex-digit : (b : ℕ) → 48 ≤ b → b < 58 → true ≡ isHex b
 unfolding isHex

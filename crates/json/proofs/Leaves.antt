@@ -21,7 +21,7 @@ use Rattle.json.specs.declared.Scan.{Scan}
 use Rattle.json.specs.declared.Scan.the-variants.{End, Bad}
 use Rattle.json.specs.declared.Walk.the-variants as walk
 use Rattle.json.specs.Steps.{nought-else, want-quote, want-minus, want-0, want-digit, want-t, want-f, want-n, want-no, name-quote, name-no, colon-yes, colon-no}
-use Rattle.json.proofs.Bytes.{over-blank, is-digit, under-digit, over-digit}
+use Rattle.json.specs.Laws.{over-blank, is-digit, under-digit, over-digit}
 use Rattle.json.proofs.Moves.{moves, dies, short, stays-none}
 use Rattle.json.proofs.Parts.{looks, int-digits, mant-done}
 
@@ -134,7 +134,7 @@ module _ (x : List ℕ) (p : ℕ) (l : p < length x) where
 
     pub scalar-high : 58 ≤ getD x p 0 → Scalar x p (Bad p)
     unfolding Scalar
-    scalar-high h = λ ks. dies x want ks p l (want-no 32 x p _ w h91 h123 h34 h45 h48 h116 h102 h110 (over-digit (getD x p 0) (omega arith) h) ks)
+    scalar-high h = λ ks. dies x want ks p l (want-no 32 x p _ w h91 h123 h34 h45 h48 h116 h102 h110 (over-digit (getD x p 0) h) ks)
 
 -- an integer that is written with digits alone: none is found, or the byte after its digits goes on with no fraction and no exponent
 pub digits-no : (x : List ℕ) (p : ℕ) → Digits x p p

@@ -8,11 +8,28 @@ use native.Mathlib.Omega.{arith}
 use lib.ListN.{length, getD}
 use lib.Seq.{slice-cons}
 use lib.Dec.{eqb}
-use borrow.Author.Tests.{ne-eqb}
+use borrow.Author.Tests.{ne-eqb, le-leb, lt-leb}
 use Rattle.json.specs.Tree.{Json, Items, _▸_, _◂_, Members, member, with, Name, placeOf, endOf}
 use Rattle.json.specs.Tree as tree
-use Rattle.json.specs.Machine.{isDigit}
+use Rattle.json.specs.Machine.{isBlank, isDigit}
 use Rattle.json.specs.Table.{size, sizes, widths, Words, Quoted, isNumeric, lead, Sub, null, bool, num, str, arr, obj, Subs, nil, cons, Fields, last, field}
+
+-- kinds of byte, by their range
+pub over-blank : (b : ℕ) → 32 < b → false ≡ isBlank b
+unfolding isBlank
+over-blank b h = rw (ne-eqb b 32 (λ e. omega arith), ne-eqb b 10 (λ e. omega arith), ne-eqb b 13 (λ e. omega arith), ne-eqb b 9 (λ e. omega arith))
+
+pub is-digit : (b : ℕ) → 48 ≤ b → b < 58 → true ≡ isDigit b
+unfolding isDigit
+is-digit b l h = rw (le-leb 48 b l, le-leb b 57 (omega arith))
+
+pub under-digit : (b : ℕ) → b < 48 → false ≡ isDigit b
+unfolding isDigit
+under-digit b l = rw (lt-leb 48 b l)
+
+pub over-digit : (b : ℕ) → 57 < b → false ≡ isDigit b
+unfolding isDigit
+over-digit b h = rw (le-leb 48 b (omega arith), lt-leb b 57 h)
 
 -- the byte that a value starts with
 unfoldable pub leadOf : Json → ℕ

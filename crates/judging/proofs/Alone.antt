@@ -1,18 +1,18 @@
 -- A tree that keeps rule 6 has no two city objects of one ID. Assumes nothing.
 use Prim.Native.Nat.{ℕ, zero, suc, _<_}
 use native.Mathlib.Omega.{arith}
-use mathlib.Core.Path.{_≡_, refl, sym, ap, _∙_}
-use mathlib.Core.Bool.{Bool, true, false, cond, _||_}
-use mathlib.Core.List.{List, [], _∷_, _++_, map}
+use mathlib.Core.Path.{_≡_, refl}
+use mathlib.Core.Bool.{Bool, true, false, cond}
+use mathlib.Core.List.{List, [], _∷_}
 use mathlib.Core.Option.{Option, some}
 use mathlib.Core.Option as option
 use lib.ListN.{length, getD}
 use Rattle.utf8.specs.Ascii.{ascii}
 use Rattle.utf8.specs.Utf8.{same}
-use Rattle.utf8.specs.Laws.{same-refl, never}
+use Rattle.utf8.specs.Laws.{same-refl, neither}
 use Rattle.strings.specs.Strings.{decode}
 use Rattle.json.specs.Tree.{Json, null, bool, num, str, arr, obj, Members, empty, member, Name}
-use Rattle.nodes.specs.Access.{Member, nameOf, pairs, members, firstNamed, find}
+use Rattle.nodes.specs.Access.{nameOf, pairs, members, firstNamed, find}
 use Rattle.everywhere.specs.Everywhere.{among, repeated, rule6, rule6Of}
 use Rattle.fields.specs.Fields.{membersIn, objectsOf}
 use Rattle.model.specs.Model.{numberOf}
@@ -24,10 +24,6 @@ use Rattle.sheets.specs.Clear.{nil-left, nil-right}
 not-among : (b : Bool) (p : ℕ) → cond b (p ∷ []) [] ≡ [] → b ≡ false
 not-among true p e = cc
 not-among false p e = refl
-
-neither : (a b : Bool) → (a || b) ≡ false → (a ≡ false) × (b ≡ false)
-neither true b e = absurd (never refl e)
-neither false b e = (refl, e)
 
 -- whether the first name is among those before, and what is told of the later ones
 first-place : List (List ℕ) → Name → List ℕ

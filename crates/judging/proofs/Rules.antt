@@ -6,7 +6,7 @@ use mathlib.Core.List.{List, map}
 use lib.ListN.{length}
 use borrow.Author.Needs.{needs}
 use Rattle.utf8.specs.Utf8.{wholeLength}
-use Rattle.json.specs.Machine.{read, reads}
+use Rattle.json.specs.Machine.{reads}
 use Rattle.json.specs.Table.{Sub}
 use Rattle.json.specs.Parse.{Tells}
 use Rattle.json.specs.declared.Parsed.{Parsed}

@@ -3,12 +3,9 @@ use Prim.Native.Nat.{ℕ, _+_, _*_, _<_, _≤_}
 use native.Mathlib.Omega.{arith}
 use mathlib.Core.Path.{_≡_}
 use mathlib.Core.List.{List}
-use mathlib.Core.Option.{Option}
-use lib.ListN.{length, getD, replicate}
+use lib.ListN.{getD, replicate}
 use borrow.Author.Needs.{needs}
-use Rattle.json.specs.Tree.{Json}
-use Rattle.nodes.specs.Says.{Node, Sought, Seeks}
-use Rattle.nodes.specs.declared.Found.{Found}
+use Rattle.nodes.specs.Says.{Node}
 use Rattle.shapes.specs.Laws.{checking}
 use Rattle.fields.specs.Laws.{at-node, sought-in}
 use Rattle.ids.specs.Says.{Objects, Chains}
@@ -19,7 +16,7 @@ use Rattle.links.proofs.Noting.{notes-all}
 use Rattle.links.proofs.Walk.{walk-node, walk-less}
 use Rattle.links.proofs.Marking.{mark-other, mark-absent, mark-again, mark-new, marking-begin, marking-room, marking-turn, marked, marked-other, marked-at, marked-nothing}
 use Rattle.links.proofs.Answering.{open-other, open-absent, open-told, answering-begin, answering-turn, answered, answered-other, answered-nothing, answered-at, children-nothing, children-excused, children-at}
-use Rattle.links.proofs.Sweeps.{object-marks, filling-begin, filling-below, filling-above, filling-turn, filled, parent-some, parent-told, object-opens, opening-begin, opening-turn, opened, filled-all, all-given, objects-are, alone-are, links-given}
+use Rattle.links.proofs.Sweeps.{filling-begin, filling-below, filling-above, filling-turn, filled, opening-begin, opening-turn, opened, filled-all, all-given, objects-are, alone-are, links-given}
 
 -- the value of the object of number k, and its row
 pub object-at : {x t offsets : List ℕ} {count k : ℕ} {heads nexts : List ℕ} → Numbered x t offsets count heads nexts → k < count → Node x t (getD offsets k 0 + 3)

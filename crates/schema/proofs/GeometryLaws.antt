@@ -1,5 +1,5 @@
 -- Geometries, their boundaries and their semantics, from what the code's tests say. Assumes nothing.
-use Prim.Native.Nat.{ℕ, zero, suc, _+_, _-_, _*_, _^_, _<_, _≤_, min}
+use Prim.Native.Nat.{ℕ, zero, suc, _+_, _-_, _*_, _≤_, min}
 use Prim.Native.String.{String}
 use native.Mathlib.Omega.{arith}
 use mathlib.Core.Path.{_≡_, refl, sym, ap, _∙_, subst}
@@ -26,7 +26,7 @@ use Rattle.nodes.specs.declared.Found.{Found}
 use Rattle.nodes.specs.declared.Found.the-variants.{At, Nothing}
 use Rattle.fields.specs.Fields.{textIn, typeText, countIn}
 use Rattle.fields.specs.Says.{StringNode, CodeOf}
-use Rattle.fields.specs.Laws.{at-node, at-room, at-onward, of-none, of-some, string-node, string-span, string-text}
+use Rattle.fields.specs.Laws.{at-node, at-room, at-onward, string-node, string-span, string-text}
 use Rattle.shapes.specs.Checks.{Check, unless, all, on, at, forEach, each, isObject, isString, isArray, isSome, needs, text}
 use Rattle.shapes.specs.Shapes.{shaped, near, matches, isNil, isIntegerValue}
 use Rattle.shapes.specs.Says.{Nodes, GivesTwo, Needs}
@@ -65,15 +65,6 @@ gives-same : {x t : List ℕ} {i : ℕ} (best : ℕ) (c d : Check) {r : ℕ} →
 gives-same best c d e g = record { is = λ v s. g .is v s ∙ ap (least best) (e v s) }
 
 -- ---- what was found
-
-module _ {x t : List ℕ} {found : Found} (best : ℕ) (c : Check) where
-  pub found-none : found ≡ Nothing → GivesFound (λ o. least best (on c o)) x t found best
-  unfolding on least
-  found-none e = of-none (λ o. least best (on c o)) e refl
-
-  pub found-some : {k r : ℕ} → found ≡ At k → Gives (λ v. least best (c v)) x t k r → GivesFound (λ o. least best (on c o)) x t found r
-  unfolding on
-  found-some e g = of-some (λ o. least best (on c o)) e g
 
 module _ {x t : List ℕ} {found two : Found} (best : ℕ) (c : Option Json → Check) where
   pub both-none : found ≡ Nothing → GivesBoth (λ o p. least best (on (c p) o)) x t found two best

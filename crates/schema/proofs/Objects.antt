@@ -1,37 +1,36 @@
 -- What the proofs of the root and of city objects use. Assumes nothing.
-use Prim.Native.Nat.{ℕ, _+_, _-_, _*_, _^_, _≤_, _<_, min}
+use Prim.Native.Nat.{ℕ, _+_, _-_}
 use native.Mathlib.Omega.{arith}
 use mathlib.Core.Path.{_≡_, refl, sym, ap, _∙_, subst}
 use mathlib.Core.Bool.{Bool, true, false, not, _||_, _&&_}
 use mathlib.Core.List.{List, [], _∷_, _++_, append-assoc, append-nil}
 use mathlib.Core.Option.{Option, none, some}
 use Prim.Native.String.{String}
-use lib.ListN.{length, getD}
+use lib.ListN.{getD}
 use lib.Dec.{eqb}
 use Rattle.utf8.specs.Ascii.{ascii}
 use Rattle.utf8.specs.Laws.{both-left, both-right, same-equal}
 use borrow.Author.Tests.{not-true, not-false, eq-eqb, ne-eqb}
 use borrow.Author.Needs.{needs}
 use Rattle.utf8.specs.Utf8.{same}
-use Rattle.strings.specs.Spans.{Span, decodeAt}
+use Rattle.strings.specs.Spans.{decodeAt}
 use Rattle.words.specs.Words.{objectWords, codeOf, isOne, isAdded}
 use Rattle.words.specs.Laws.{one-has-code}
 use Rattle.json.specs.Tree.{Json}
 use Rattle.json.specs.Table.{Sub}
-use Rattle.nodes.specs.Access.{isStringValue, isArrayValue, isObjectValue, textOf, elements, find}
+use Rattle.nodes.specs.Access.{isStringValue, isArrayValue, textOf, find}
 use Rattle.nodes.specs.Faults.{least}
-use Rattle.nodes.specs.Says.{Node, Sought, Seeks, Finds, Gives, GivesFound}
-use Rattle.nodes.specs.Laws.{least-++, least-comm}
+use Rattle.nodes.specs.Says.{Sought, Seeks, Finds, Gives, GivesFound}
 use Rattle.nodes.specs.declared.Found.{Found}
 use Rattle.nodes.specs.declared.Found.the-variants.{At, Nothing}
 use Rattle.shapes.specs.Checks.{Check, unless, all, on, at, each, isObject, isString, isNumber, isArray, text}
 use Rattle.shapes.specs.Checks as checks
 use Rattle.shapes.specs.Says.{Needs}
 use Rattle.shapes.specs.Shapes.{holdsThree, inPairRange, vertex}
-use Rattle.shapes.specs.Laws.{checking, least-all, gives-as, gives-then, text-none, all-none, all-then, needs-none, needs-then, unless-told, unless-yes, kind-no, kind-yes, pass-none, pass-done}
+use Rattle.shapes.specs.Laws.{checking, gives-as, gives-then, text-none, all-none, all-then, needs-none, needs-then, unless-told, unless-yes, kind-yes, pass-none}
 use Rattle.fields.specs.Fields.{textIn, typeText}
 use Rattle.fields.specs.Says.{CodeOf, StringNode}
-use Rattle.fields.specs.Laws.{at-node, at-room, at-onward, sought-in, of-none, of-some, string-node, string-first, string-second, string-span, string-text, other-text}
+use Rattle.fields.specs.Laws.{at-node, at-room, at-onward, sought-in, of-none, of-some, string-node, string-first, string-second, string-span, string-text}
 use Rattle.schema.specs.Schema.{wordIs, objectType, isObjectType, links, geometries, cityObject, threePairs, vertices}
 
 -- a check of what was found

@@ -6,7 +6,6 @@ use mathlib.Core.List.{List, [], _∷_, _++_}
 use native.Mathlib.Omega.{arith}
 use lib.ListN.{length, getD}
 use lib.Seq.{slice}
-use lib.Dec.{eqb}
 use mir.Syntax.{w64}
 use mir.Val.{Fits}
 use borrow.Author.Tests.{not-false}
@@ -15,13 +14,14 @@ use Rattle.numerals.specs.Reading.{Short}
 use Rattle.json.specs.Tree.{Json}
 use Rattle.json.specs.Tree as tree
 use Rattle.json.specs.Table.{Sub, size}
-use Rattle.json.specs.Laws.{words, Left, Past, past, over, ended}
+use Rattle.json.specs.Laws.{words, Left, past, over, ended}
 use Rattle.nodes.specs.Access.{isNumberValue, isArrayValue, listed, elements, numeralOf}
 use Rattle.nodes.specs.Says.{Node, Gives}
 use Rattle.nodes.specs.Laws.{numeral-at, elements-begin}
 use Rattle.shapes.specs.Checks.{unless, forEach, each, numeral}
 use Rattle.shapes.specs.Shapes.{isIntegerValue, allIntegers, isTriple, coordinate, vertex}
 use Rattle.shapes.specs.Says.{Clears, IsSmall}
+use Rattle.shapes.specs.Laws.{integer-number}
 use Rattle.shapes.proofs.Outline.{clash, integer-of}
 
 coordinate-at : (v : Json) → coordinate v ≡ unless (not (isNumberValue v) || fits32 (integer (numeralOf v))) 13 v
@@ -41,14 +41,6 @@ number-size (tree.num p e raw) h = refl
 number-size (tree.str p e raw) h = refl
 number-size (tree.arr p e vs) h = absurd (clash h)
 number-size (tree.obj p e ms) h = absurd (clash h)
-
-number-of : (v : Json) → isIntegerValue v ≡ true → isNumberValue v ≡ true
-unfolding isIntegerValue
-number-of v e = go (isNumberValue v) (isInteger (numeralOf v)) e
-  where
-    go : (a b : Bool) → a && b ≡ true → a ≡ true
-    go true b e = refl
-    go false b e = e
 
 module _ {x t : List ℕ} {i : ℕ} where
   pub small-none : IsSmall x t i false
@@ -117,7 +109,7 @@ module _ {x t : List ℕ} {i : ℕ} where
           left = λ v s.
               let u = past (p .left v s) l in
               let w = a .whole e (u .value) (u .stands) in
-              let g : getD t (k + 2) 0 ≡ k + 3 = u .word .next ∙ ap (λ (z : ℕ). k + z) (number-size (u .value) (number-of (u .value) w)) in
+              let g : getD t (k + 2) 0 ≡ k + 3 = u .word .next ∙ ap (λ (z : ℕ). k + z) (number-size (u .value) (integer-number (u .value) w)) in
               rw (q, ← g) (over u (sorted-more (u .holds) w (a .fits e (u .value) (u .stands))));
         }
 

@@ -13,6 +13,7 @@ use mir.Val.{Fits}
 use borrow.Author.Needs.{needs as simple}
 use borrow.Author.Tests.{not-true, not-false}
 use Rattle.utf8.specs.Ascii.{ascii}
+use Rattle.utf8.specs.Laws.{both-left}
 use Rattle.strings.specs.Spans.{decodeAt}
 use Rattle.json.specs.Tree.{Json}
 use Rattle.json.specs.Table.{Sub}
@@ -25,6 +26,7 @@ use Rattle.nodes.specs.declared.Found.the-variants.{At, Nothing}
 use Rattle.nodes.specs.Walks.{node-room, node-second, node-first, node-onward}
 use Rattle.nodes.specs.Laws.{place-at, text-at, numeral-at, elements-begin, fields-begin, no-elements, no-members, least-++, least-comm}
 use Rattle.shapes.specs.Checks.{Check, unless, all, on, at, forEach, each, values, eachMember, isObject, isString, isNumber, isArray, isSome, needs, text, numeral}
+use Rattle.shapes.specs.Shapes.{isIntegerValue}
 use Rattle.shapes.specs.Says.{Needs}
 
 -- the faults of two checks, in any order
@@ -80,6 +82,11 @@ at-none name c v e = ap (λ ms. on c (firstNamed (ascii name) ms)) (no-members v
 pub least-none : {b : ℕ} {xs : List ℕ} → xs ≡ [] → b ≡ least b xs
 unfolding least
 least-none {b} e = sym (ap (least b) e)
+
+-- an integer value is a number
+pub integer-number : (v : Json) → isIntegerValue v ≡ true → isNumberValue v ≡ true
+unfolding isIntegerValue
+integer-number v h = both-left (isNumberValue v) _ h
 
 pub unless-true : (best rule : ℕ) (v : Json) {b : Bool} → b ≡ true → best ≡ least best (unless b rule v)
 unfolding least unless

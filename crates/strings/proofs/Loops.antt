@@ -10,8 +10,8 @@ use lib.Seq.{drop-cons, take-suc-set, drop-set-lt}
 use lib.Dec.{eqb, eqb·suc-suc}
 use borrow.Author.Tests.{eq-eqb, ne-eqb}
 use Rattle.utf8.specs.Utf8.{encode, same}
-use Rattle.strings.specs.Laws.{ahead-start}
-use Rattle.strings.specs.Spans.{Span, decodeAt, unpairedAt, ahead, away, Steps, Hands, Copied, firstOf}
+use Rattle.strings.specs.Laws.{at-plain, step-done, step-byte, ahead-start}
+use Rattle.strings.specs.Spans.{Span, decodeAt, unpairedAt, ahead, Steps, Copied, firstOf}
 use Rattle.strings.specs.Parts.{Escapes}
 use Rattle.strings.specs.declared.Cursor.{Cursor}
 use Rattle.strings.specs.declared.Step.{Step}
@@ -21,36 +21,8 @@ use Rattle.strings.specs.declared.Escape.the-variants.{Cut, Short, Long}
 use Rattle.strings.specs.declared.Found.{Found}
 use Rattle.strings.specs.declared.Found.the-variants.{At, Nothing}
 use Rattle.strings.proofs.Bytes.{alone-under, alone-over, alone-is}
-use Rattle.strings.proofs.Pieces.{parts-end, parts-plain, stands-none, places-none, stands-byte, places-byte}
+use Rattle.strings.proofs.Pieces.{parts-end, parts-plain, places-none, places-byte}
 use Rattle.strings.proofs.Escapes.{cursor, is-short, is-long, short-stands, long-stands, long-past}
-
--- what a string stands for, by the byte at its start
-module _ {x : List ℕ} {at end : ℕ} (s : Span x at end) where
-  pub at-end : end ≤ at → decodeAt x at end ≡ []
-  at-end l = stands-none x at end (parts-end s l)
-
-  pub at-plain : at < end → (getD x at 0 ≡ 92 → ⊥) → decodeAt x at end ≡ getD x at 0 ∷ decodeAt x (at + 1) end
-  at-plain l n = stands-byte x at end _ (at + 1) (parts-plain s l n)
-
--- what a step tells
-module _ (x l : List ℕ) (n : ℕ) (s : Step) (h : Steps x l n s) where
-  pub step-done : s ≡ Done → l ≡ []
-  unfolding Steps
-  step-done q = rw q at h
-
-  module _ (b : ℕ) (d : Cursor) (q : s ≡ Byte b d) where
-    hands : Hands x l n b d
-    unfolding Steps
-    hands = rw q at h
-
-    pub step-byte : l ≡ b ∷ ahead x d
-    step-byte = hands .first
-
-    pub step-span : Span x (d .at) (d .end)
-    step-span = hands .span
-
-    pub step-nearer : away d < n
-    step-nearer = hands .nearer
 
 -- a word from k on, and bytes that are compared one by one
 word-none : (w : List ℕ) (k : ℕ) → k ≤ length w → eqb k (length w) ≡ same (drop k w) []

@@ -1,19 +1,18 @@
 -- The pieces of a part of a text, by the bytes at its start. Assumes nothing.
 use Prim.Native.Nat.{ℕ, zero, suc, _+_, _-_, _*_, _≤_, _<_}
 use native.Mathlib.Omega.{arith}
-use native.Mathlib.Numerals.{add-one}
 use mathlib.Core.Path.{_≡_, refl, ap, sym, _∙_}
 use mathlib.Core.Bool.{Bool, true, false, cond, _&&_}
 use mathlib.Core.List.{List, [], _∷_, _++_, append-nil}
-use lib.ListN.{length, getD, take, drop-of-length-le}
-use lib.Seq.{slice, slice-cons, length-slice, length-take-le}
+use lib.ListN.{length, getD}
+use lib.Seq.{slice, length-slice}
 use lib.Dec.{eqb}
 use borrow.Author.Tests.{eq-eqb, ne-eqb}
 use Rattle.utf8.specs.Utf8.{encode}
 use Rattle.strings.specs.Strings.{Piece, byte, unit, Mark, plain, slash, hex, hexValue, escaped, next, ended, pieces, isHigh, isLow, paired, decoded, decode, alone, unpaired, unpairedFrom}
 use Rattle.strings.specs.Spans.{Span, decodeAt, unpairedAt}
 use Rattle.strings.specs.Parts.{partsAt, unitAt, lowFirst}
-use Rattle.strings.specs.Laws.{decoded-anywhere}
+use Rattle.strings.specs.Laws.{decoded-anywhere, cross, no-byte, onward}
 
 pub decode-parts : (x : List ℕ) (at end : ℕ) → decodeAt x at end ≡ decoded (partsAt x at end)
 unfolding decodeAt decode partsAt
@@ -24,21 +23,14 @@ unfolding unpairedAt unpairedFrom partsAt
 unpaired-parts x at end = refl
 
 module _ {x : List ℕ} {at end : ℕ} (s : Span x at end) where
-  -- the bytes from at on, one at a time
-  cross : at < end → slice at end x ≡ getD x at 0 ∷ slice (at + 1) end x
-  cross l = rw (add-one at) (slice-cons at end x 0 l (s .high))
-
   -- the pieces that are begun in the mark k
   step : (k : Mark) → at < end → pieces k at (slice at end x) ≡ ended k at (getD x at 0) ++ pieces (next k (getD x at 0)) (at + 1) (slice (at + 1) end x)
   unfolding pieces
-  step k l = rw (cross l)
-
-  none : end ≤ at → slice at end x ≡ []
-  none l = drop-of-length-le (take end x) {i = at} (rw (length-take-le end x (s .high)) l)
+  step k l = rw (cross s l)
 
   pub parts-end : end ≤ at → partsAt x at end ≡ []
   unfolding partsAt pieces
-  parts-end l = rw (none l)
+  parts-end l = rw (no-byte s l)
 
   pub parts-plain : at < end → (getD x at 0 ≡ 92 → ⊥) → partsAt x at end ≡ byte (getD x at 0) ∷ partsAt x (at + 1) end
   unfolding partsAt ended next
@@ -64,9 +56,6 @@ module _ {x : List ℕ} {at end : ℕ} (s : Span x at end) where
   unfolding ended next partsAt
   last-digit u l = step (hex zero u) l
 
-  pub onward : at < end → Span x (at + 1) end
-  onward l = record { low = omega arith; high = s .high }
-
 -- too few digits
 few-digits : (s : List ℕ) (j u n : ℕ) → length s ≤ j → pieces (hex j u) n s ≡ []
 unfolding pieces ended next
@@ -77,7 +66,7 @@ few-digits (b ∷ s) (suc j) u n h = few-digits s j (u * 16 + hexValue b) (n + 1
 module _ {x : List ℕ} {at end : ℕ} (s : Span x at end) (e : getD x at 0 ≡ 92) where
   pub parts-cut : at < end → end - at < 2 → partsAt x at end ≡ []
   unfolding pieces
-  parts-cut l h = rw (onto-slash s l e, none (onward s l) (omega arith))
+  parts-cut l h = rw (onto-slash s l e, no-byte (onward s l) (omega arith))
 
   pub parts-short : at + 1 < end → (getD x (at + 1) 0 ≡ 117 → ⊥) → partsAt x at end ≡ byte (escaped (getD x (at + 1) 0)) ∷ partsAt x (at + 2) end
   parts-short l n =

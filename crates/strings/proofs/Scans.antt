@@ -5,16 +5,15 @@ use native.Mathlib.Numerals.{add-one}
 use mathlib.Core.Path.{_≡_, refl, sym, ap, _∙_}
 use mathlib.Core.Bool.{Bool, true, false, not, _||_}
 use mathlib.Core.List.{List, [], _∷_, _++_}
-use lib.ListN.{length, getD, take, drop, drop-of-length-le, take-append-drop}
+use lib.ListN.{length, getD, drop, drop-of-length-le, take-append-drop}
 use lib.Seq.{slice, slice-cons, slice-empty, drop-cons}
 use lib.Dec.{eqb}
 use borrow.Author.Tests.{lt-ltb, le-ltb, eq-eqb, ne-eqb}
 use Rattle.utf8.specs.Utf8.{same}
-use Rattle.strings.specs.Laws.{has-append}
 use Rattle.strings.specs.Spans.{Span, decodeAt, hasByte, beginApart}
 use Rattle.strings.specs.Parts.{Spelled, Agree}
-use Rattle.strings.proofs.Pieces.{onward}
-use Rattle.strings.proofs.Loops.{at-end, both-end, plain-word-wrong, plain-word-more, plain-both-more}
+use Rattle.strings.specs.Laws.{onward, at-end, has-append}
+use Rattle.strings.proofs.Loops.{both-end, plain-word-wrong, plain-word-more, plain-both-more}
 
 or-assoc : (a b c : Bool) → ((a || b) || c) ≡ (a || (b || c))
 or-assoc true b c = refl

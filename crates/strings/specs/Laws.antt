@@ -1,19 +1,22 @@
 -- Laws of decoding: where a string stands does not change what it stands for; it stands for no more bytes than it has; strings that begin apart do not stand for the same bytes; the places of its unpaired surrogates are in increasing order, and there are none where no byte is a backslash.
 -- Assumes nothing.
 use Prim.Native.Nat.{ℕ, zero, suc, _+_, _-_, _*_, _/_, _≤_, _<_}
+use native.Mathlib.Numerals.{add-one}
 use native.Mathlib.Omega.{arith}
 use mathlib.Core.Path.{_≡_, refl, ap, sym, _∙_, subst}
 use mathlib.Core.Bool.{Bool, true, false, cond, not, _&&_, _||_}
 use mathlib.Core.Logic.{⊎-elim}
 use mathlib.Core.List.{List, [], _∷_, _++_, append-nil, List·Memᴰ, List·Memᴰ·not-nil, List·Memᴰ·cases-cons}
-use lib.ListN.{length, getD, take, drop, length-append, take-append-drop}
+use lib.ListN.{length, getD, take, drop, length-append, take-append-drop, drop-of-length-le}
 use lib.Dec.{eqb, leb, ltb}
-use lib.Seq.{slice, slice-cons, length-slice}
-use borrow.Author.Tests.{ltb-true, not-true}
+use lib.Seq.{slice, slice-cons, length-slice, length-take-le}
+use borrow.Author.Tests.{ltb-true, not-true, ne-eqb}
 use Rattle.utf8.specs.Utf8.{encode, same}
-use Rattle.utf8.specs.Laws.{both-left, both-right}
-use Rattle.strings.specs.Spans.{Span, decodeAt, unpairedAt, pending, ahead, away, firstOf, hasByte, beginApart}
+use Rattle.utf8.specs.Laws.{both-left, both-right, neither}
+use Rattle.strings.specs.Spans.{Span, decodeAt, unpairedAt, pending, ahead, away, Hands, Steps, firstOf, hasByte, beginApart}
 use Rattle.strings.specs.declared.Cursor.{Cursor}
+use Rattle.strings.specs.declared.Step.{Step}
+use Rattle.strings.specs.declared.Step.the-variants.{Byte, Done}
 use Rattle.strings.specs.declared.Found.the-variants.{At}
 use Rattle.strings.specs.Strings.{Piece, byte, unit, Mark, plain, slash, hex, hexValue, escaped, next, ended, pieces, isHigh, isLow, paired, decoded, decode, alone, unpaired, unpairedFrom}
 
@@ -127,6 +130,29 @@ pub decodeAt-short : (x : List ℕ) (at end : ℕ) → end ≤ length x → leng
 unfolding decodeAt
 decodeAt-short x at end h = omega (arith, decode-short (slice at end x), length-slice at end x h)
 
+-- what a string stands for, by the byte at its start
+plain-byte : (b : ℕ) (s : List ℕ) → (b ≡ 92 → ⊥) → decode (b ∷ s) ≡ b ∷ decode s
+unfolding decode pieces ended next decoded
+plain-byte b s n = rw (ne-eqb b 92 n, decoded-anywhere 1 0 s)
+
+module _ {x : List ℕ} {at end : ℕ} (s : Span x at end) where
+  pub cross : at < end → slice at end x ≡ getD x at 0 ∷ slice (at + 1) end x
+  cross l = rw (add-one at) (slice-cons at end x 0 l (s .high))
+
+  pub no-byte : end ≤ at → slice at end x ≡ []
+  no-byte l = drop-of-length-le (take end x) {i = at} (rw (length-take-le end x (s .high)) l)
+
+  pub onward : at < end → Span x (at + 1) end
+  onward l = record { low = omega arith; high = s .high }
+
+  pub at-plain : at < end → (getD x at 0 ≡ 92 → ⊥) → decodeAt x at end ≡ getD x at 0 ∷ decodeAt x (at + 1) end
+  unfolding decodeAt
+  at-plain l n = ap decode (cross l) ∙ plain-byte (getD x at 0) (slice (at + 1) end x) n
+
+  pub at-end : end ≤ at → decodeAt x at end ≡ []
+  unfolding decodeAt decode pieces decoded
+  at-end l = ap decode (no-byte l)
+
 first-stands : {x : List ℕ} {at end : ℕ} → Span x at end → ltb at end ≡ true → not (eqb (getD x at 0) 92) ≡ true → decodeAt x at end ≡ getD x at 0 ∷ decoded (pieces plain 1 (slice (suc at) end x))
 unfolding decodeAt decode pieces ended next decoded
 first-stands {x} {at} {end} s l n = rw (slice-cons at end x 0 (ltb-true at end l) (s .high), not-true (eqb (getD x at 0) 92) n)
@@ -146,6 +172,26 @@ apart-differ {x} {at} {end} {at2} {end2} s t q =
     let b = getD x at2 0 in
     let z = each (ltb at end) (ltb at2 end2) (not (eqb a b)) (not (eqb a 92)) (not (eqb b 92)) q in
     rw (first-stands s (z .0) (z .3), first-stands t (z .1) (z .4), not-true (eqb a b) (z .2))
+
+-- what a step tells
+module _ (x l : List ℕ) (n : ℕ) (s : Step) (h : Steps x l n s) where
+  pub step-done : s ≡ Done → l ≡ []
+  unfolding Steps
+  step-done q = rw q at h
+
+  module _ (b : ℕ) (d : Cursor) (q : s ≡ Byte b d) where
+    hands : Hands x l n b d
+    unfolding Steps
+    hands = rw q at h
+
+    pub step-byte : l ≡ b ∷ ahead x d
+    step-byte = hands .first
+
+    pub step-span : Span x (d .at) (d .end)
+    step-span = hands .span
+
+    pub step-nearer : away d < n
+    step-nearer = hands .nearer
 
 -- a cursor with no character begun has ahead what its part of the text stands for
 pub ahead-start : (x : List ℕ) (at end word : ℕ) → ahead x (record { at = at; end = end; word = word; left = 0 }) ≡ decodeAt x at end
@@ -272,10 +318,6 @@ has-append b (a ∷ l) m = has-or (eqb a b) (hasByte b l) (hasByte b m) (has-app
     has-or : (c d e : Bool) {r : Bool} → r ≡ (d || e) → (c || r) ≡ ((c || d) || e)
     has-or true d e q = refl
     has-or false d e q = q
-
-neither : (c d : Bool) → (c || d) ≡ false → (c ≡ false) × (d ≡ false)
-neither true d q = let z : _≡_ {A = ℕ} 0 1 = cc in absurd (omega arith)
-neither false d q = (refl, q)
 
 none-of : (b n : ℕ) (l : List ℕ) → hasByte b l ≡ false → (hasByte b (take n l) ≡ false) × (hasByte b (drop n l) ≡ false)
 none-of b n l q = neither (hasByte b (take n l)) (hasByte b (drop n l)) (sym (has-append b (take n l) (drop n l)) ∙ (ap (hasByte b) (take-append-drop n l) ∙ q))

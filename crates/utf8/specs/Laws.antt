@@ -2,7 +2,7 @@
 use Prim.Native.Nat.{ℕ, zero, suc, _+_, _*_, _/_, _%_, _≤_, _<_}
 use native.Mathlib.Omega.{arith}
 use mathlib.Core.Path.{_≡_, refl, sym, _∙_, ap, subst}
-use mathlib.Core.Bool.{Bool, true, false, cond, _&&_}
+use mathlib.Core.Bool.{Bool, true, false, cond, _&&_, _||_}
 use mathlib.Core.List.{List, [], _∷_}
 use mathlib.Core.Logic.{_⊎_, inl, inr, ⊎-elim}
 use lib.ListN.{length, take, drop, getD}
@@ -23,6 +23,11 @@ both-right false b e = let z : _≡_ {A = ℕ} 0 1 = cc in absurd (omega arith)
 
 pub never : {b : Bool} → b ≡ true → b ≡ false → ⊥
 never {b} e f = let z : _≡_ {A = ℕ} 0 1 = cc in omega arith
+
+-- two Booleans, neither true
+pub neither : (a b : Bool) → (a || b) ≡ false → (a ≡ false) × (b ≡ false)
+neither true b e = absurd (never refl e)
+neither false b e = (refl, e)
 
 pub unless : (b : Bool) → (b ≡ true → ⊥) → b ≡ false
 unless true n = absurd (n refl)

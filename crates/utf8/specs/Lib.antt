@@ -5,3 +5,4 @@ pub mod Says
 pub mod Laws
 pub mod Meaning
 pub mod Examples
+pub mod Finite

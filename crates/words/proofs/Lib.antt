@@ -1,5 +1,4 @@
 -- What the proofs of several functions use.
-mod Tests
 mod Scan
 mod Guess
 mod Looks

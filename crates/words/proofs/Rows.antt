@@ -10,8 +10,8 @@ use lib.Dec.{eqb, ltb}
 use borrow.Author.Tests.{ne-eqb, ltb-true}
 use Rattle.words.specs.Words.{depth, valuesDepth, Row, permittedRows, permittedIn, isPermitted, has, objectCodes}
 use Rattle.utf8.specs.Laws.{both-left, both-right}
-use Rattle.words.specs.Tables.{each, agree, bitAt, tabled}
-use Rattle.words.proofs.Tests.{each-below, agree-equal}
+use Rattle.words.specs.Tables.{bitAt, tabled}
+use Rattle.utf8.specs.Finite.{each, each-below, agree, agree-equal}
 
 -- no depth is listed past the codes
 past : (f : ℕ → ℕ) → ((m : ℕ) → 0 ≡ f (suc (suc (suc (suc (suc (suc (suc (suc m))))))))) → (code : ℕ) → 8 ≤ code → 0 ≡ f code

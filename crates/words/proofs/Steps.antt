@@ -1,14 +1,14 @@
 -- What the steps of a cursor tell of the string: whether it begins with a plus sign, and whether it is a level of detail. Assumes nothing.
-use Prim.Native.Nat.{ℕ, _≤_, _<_}
+use Prim.Native.Nat.{ℕ, _≤_}
 use mathlib.Core.Path.{_≡_, refl, sym, _∙_}
 use mathlib.Core.Bool.{Bool, true, false, not}
 use mathlib.Core.List.{List, [], _∷_}
 use lib.ListN.{length}
 use lib.Dec.{eqb, leb, ltb}
-use borrow.Author.Tests.{eq-eqb, ne-eqb, le-leb, lt-leb, not-true, not-false}
+use borrow.Author.Tests.{eq-eqb, ne-eqb, le-leb, not-true, not-false}
 use Rattle.json.specs.Machine.{isDigit}
-use Rattle.strings.specs.Laws.{ahead-start}
-use Rattle.strings.specs.Spans.{Span, decodeAt, ahead, Steps, Hands}
+use Rattle.strings.specs.Laws.{step-done, step-byte, ahead-start}
+use Rattle.strings.specs.Spans.{decodeAt, ahead, Steps}
 use Rattle.strings.specs.declared.Cursor.{Cursor}
 use Rattle.strings.specs.declared.Step.{Step}
 use Rattle.strings.specs.declared.Step.the-variants.{Byte, Done}
@@ -16,30 +16,9 @@ use Rattle.words.specs.Words.{isAdded, isAddedName, isLod}
 
 -- a digit, from what the tests say
 module _ (b : ℕ) where
-  pub digit-under : b < 48 → false ≡ isDigit b
-  unfolding isDigit
-  digit-under h = rw (lt-leb 48 b h)
-
   pub digit-from : 48 ≤ b → leb b 57 ≡ isDigit b
   unfolding isDigit
   digit-from h = rw (le-leb 48 b h)
-
--- what a step tells
-module _ (x l : List ℕ) (n : ℕ) (s : Step) (h : Steps x l n s) where
-  step-done : s ≡ Done → l ≡ []
-  unfolding Steps
-  step-done q = rw q at h
-
-  module _ (b : ℕ) (d : Cursor) (q : s ≡ Byte b d) where
-    hands : Hands x l n b d
-    unfolding Steps
-    hands = rw q at h
-
-    step-byte : l ≡ b ∷ ahead x d
-    step-byte = hands .first
-
-    pub step-span : Span x (d .at) (d .end)
-    step-span = hands .span
 
 -- lists of bytes that are a level of detail and that are not
 lod-none : false ≡ isLod []

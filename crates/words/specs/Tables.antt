@@ -1,13 +1,14 @@
 -- What the private functions are asked and tell: the number of the first of some words that a text is, where the words stand one after the other in a string of bytes; and a table of the permitted geometries.
 -- Assumes nothing: these are definitions.
-use Prim.Native.Nat.{ℕ, zero, suc, _+_, _-_, _/_, _^_}
+use Prim.Native.Nat.{ℕ, _+_, _-_, _/_, _^_}
 use Prim.Native.String.{String}
-use mathlib.Core.Bool.{Bool, true, false, cond, not, _&&_}
+use mathlib.Core.Bool.{Bool, true, cond, _&&_}
 use mathlib.Core.List.{List, [], _∷_}
 use lib.ListN.{take, drop, getD}
 use lib.Bits.{bitAnd}
 use lib.Dec.{eqb, leb}
 use Rattle.utf8.specs.Ascii.{ascii}
+use Rattle.utf8.specs.Finite.{each, agree}
 use Rattle.utf8.specs.Utf8.{same}
 use Rattle.words.specs.Words.{isPermitted}
 
@@ -32,16 +33,6 @@ unfoldable pub spelled : List String → List (List ℕ)
 unfolding ascii
 spelled [] = []
 spelled (w ∷ ws) = ascii w ∷ spelled ws
-
--- does a test pass at each of the n numbers from i on?
-abbrev pub each : (ℕ → Bool) → ℕ → ℕ → Bool
-each f i zero = true
-each f i (suc n) = f i && each f (suc i) n
-
--- do two truth values agree?
-abbrev pub agree : Bool → Bool → Bool
-agree true b = b
-agree false b = not b
 
 -- bit c of the number at o
 unfoldable pub bitAt : List ℕ → ℕ → ℕ → Bool

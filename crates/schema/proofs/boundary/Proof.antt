@@ -1,11 +1,12 @@
 -- `schema::boundary` meets its contract. Assumes nothing.
 use Rattle.schema.specs.Schema.{boundaries}
-use Rattle.schema.proofs.GeometryLaws.{geometric, found-none, found-some, boundary-none, boundary-is}
+use Rattle.schema.proofs.Objects.{found-nothing, found-some}
+use Rattle.schema.proofs.GeometryLaws.{geometric, boundary-none, boundary-is}
 use Rattle.schema.proofs.boundary.Statement.{statement}
 use Rattle.schema.proofs.boundary.Tie as tie
 
 returns : tie.Need-returns
-returns c = found-none _ (boundaries _ _) (c .enum-told .given .1)
+returns c = found-nothing _ (boundaries _ _) (c .enum-told .given .1)
 
 returns-2 : tie.Need-returns-2
 returns-2 c = found-some _ (boundaries _ _) (c .before .before .before .found .given .1) (boundary-none _ _ _ (c .before .array .ensures) (c .if1 .taken))

@@ -2,7 +2,8 @@
 use Prim.Native.Nat.{_-_}
 use Rattle.shapes.specs.Laws.{Pass, pass-done}
 use Rattle.schema.specs.Schema as schema
-use Rattle.schema.proofs.GeometryLaws.{geometric, found-none, found-some, geometries-no, geometries-yes}
+use Rattle.schema.proofs.Objects.{found-nothing, found-some}
+use Rattle.schema.proofs.GeometryLaws.{geometric, geometries-no, geometries-yes}
 use Rattle.schema.proofs.geometries.Statement.{statement}
 use Rattle.schema.proofs.geometries.Tie as tie
 
@@ -13,7 +14,7 @@ abbrev μ-loop : tie.MeasureT-loop
 μ-loop text table vertices object best i n least₀ k₀ least k = n - k
 
 returns : tie.Need-returns Inv-loop μ-loop
-returns c = found-none _ (schema.geometries _ _) (c .enum-told .given .1)
+returns c = found-nothing _ (schema.geometries _ _) (c .enum-told .given .1)
 
 returns-2 : tie.Need-returns-2 Inv-loop μ-loop
 returns-2 c = found-some _ (schema.geometries _ _) (c .before .before .before .before .found .given .1) (geometries-no _ (c .before .before .is-array .ensures) _ _ (c .before .if1 .taken) (c .array .ensures))

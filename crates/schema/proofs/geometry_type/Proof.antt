@@ -2,12 +2,13 @@
 use Rattle.utf8.specs.Ascii.{ascii}
 use Rattle.words.specs.Words.{is}
 use Rattle.schema.specs.Schema.{geometryType}
-use Rattle.schema.proofs.GeometryLaws.{geometric, found-none, found-some, string-other, geometry-other, type-coded, type-instance, type-unknown}
+use Rattle.schema.proofs.Objects.{found-nothing, found-some}
+use Rattle.schema.proofs.GeometryLaws.{geometric, string-other, geometry-other, type-coded, type-instance, type-unknown}
 use Rattle.schema.proofs.geometry_type.Statement.{statement}
 use Rattle.schema.proofs.geometry_type.Tie as tie
 
 returns : tie.Need-returns
-returns c = found-none _ (geometryType _ _) (c .enum-told .given .1)
+returns c = found-nothing _ (geometryType _ _) (c .enum-told .given .1)
 
 returns-2 : tie.Need-returns-2
 returns-2 c = found-some _ (geometryType _ _) (c .before .before .before .before .found .given .1) (string-other _ (geometryType _ _) (geometry-other _ _) (c .before .before .is-string .ensures) (c .before .if1 .taken) (c .string .ensures))

@@ -2,12 +2,13 @@
 use Rattle.words.specs.Words.{isLod}
 use Rattle.fields.specs.Laws.{at-node, string-node}
 use Rattle.schema.specs.Schema as schema
-use Rattle.schema.proofs.GeometryLaws.{geometric, found-none, found-some, string-other, string-check, lod-other, lod-string}
+use Rattle.schema.proofs.Objects.{found-nothing, found-some}
+use Rattle.schema.proofs.GeometryLaws.{geometric, string-other, string-check, lod-other, lod-string}
 use Rattle.schema.proofs.lod.Statement.{statement}
 use Rattle.schema.proofs.lod.Tie as tie
 
 returns : tie.Need-returns
-returns c = found-none _ schema.lod (c .enum-told .given .1)
+returns c = found-nothing _ schema.lod (c .enum-told .given .1)
 
 returns-2 : tie.Need-returns-2
 returns-2 c = found-some _ schema.lod (c .before .before .before .before .found .given .1) (string-other _ schema.lod lod-other (c .before .before .is-string .ensures) (c .before .if1 .taken) (c .string .ensures))

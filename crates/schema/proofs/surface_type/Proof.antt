@@ -3,12 +3,13 @@ use mathlib.Core.Path.{refl}
 use Rattle.fields.specs.Laws.{at-node, string-node}
 use Rattle.shapes.specs.Laws.{unless-yes}
 use Rattle.schema.specs.Schema.{isSurfaceType, surfaceType}
-use Rattle.schema.proofs.GeometryLaws.{geometric, found-none, found-some, string-other, string-check, surface-other, surface-string, surface-coded, surface-added}
+use Rattle.schema.proofs.Objects.{found-nothing, found-some}
+use Rattle.schema.proofs.GeometryLaws.{geometric, string-other, string-check, surface-other, surface-string, surface-coded, surface-added}
 use Rattle.schema.proofs.surface_type.Statement.{statement}
 use Rattle.schema.proofs.surface_type.Tie as tie
 
 returns : tie.Need-returns
-returns c = found-none _ surfaceType (c .enum-told .given .1)
+returns c = found-nothing _ surfaceType (c .enum-told .given .1)
 
 returns-2 : tie.Need-returns-2
 returns-2 c = found-some _ surfaceType (c .before .before .before .before .found .given .1) (string-other _ surfaceType surface-other (c .before .before .is-string .ensures) (c .before .if1 .taken) (c .string .ensures))

@@ -1,12 +1,16 @@
--- Tests that antt computes at each number of a range, and what they tell of one of the numbers. Assumes nothing.
+-- Tests that are computed at each number of a range, and what they tell of one of the numbers. Assumes nothing.
 use Prim.Native.Nat.{ℕ, zero, suc, _+_, _<_}
 use native.Mathlib.Omega.{arith}
 use mathlib.Core.Path.{_≡_, refl, sym}
-use mathlib.Core.Bool.{Bool, true, false}
+use mathlib.Core.Bool.{Bool, true, false, not, _&&_}
 use Rattle.utf8.specs.Laws.{both-left, both-right}
-use Rattle.words.specs.Tables.{each, agree}
 
--- a test that passes at each number passes at one of them
+-- does a test pass at each of the n numbers from i on?
+abbrev pub each : (ℕ → Bool) → ℕ → ℕ → Bool
+each f i zero = true
+each f i (suc n) = f i && each f (suc i) n
+
+-- then it passes at one of them
 each-from : (f : ℕ → Bool) (i n k : ℕ) → each f i n ≡ true → k < n → f (i + k) ≡ true
 each-from f i zero k e h = absurd (omega arith)
 each-from f i (suc n) zero e h = let z : i + 0 ≡ i = omega arith in rw z (both-left (f i) _ e)
@@ -15,7 +19,11 @@ each-from f i (suc n) (suc k) e h = let z : i + suc k ≡ suc i + k = omega arit
 pub each-below : (f : ℕ → Bool) (n k : ℕ) → each f 0 n ≡ true → k < n → f k ≡ true
 each-below f n k e h = let z : k ≡ 0 + k = omega arith in rw z (each-from f 0 n k e h)
 
--- truth values that agree are equal
+-- do two truth values agree?
+abbrev pub agree : Bool → Bool → Bool
+agree true b = b
+agree false b = not b
+
 pub agree-equal : (a b : Bool) → agree a b ≡ true → a ≡ b
 agree-equal true b e = sym e
 agree-equal false true e = e
