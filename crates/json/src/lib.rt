@@ -433,12 +433,25 @@ fn text_node(text: &[u8], at: usize, table: &mut [u32], n: usize) -> Walk
     }
 }
 
+// Past the white space before a name, whose quote mostly stands there at once.
+fn name_start(text: &[u8], at: usize) -> usize
+    requires { ⌜ at ≤ length (now text) ⌝ }
+    ensures { λ r. ⌜ Skips blanks isBlank (now (text .entry)) at r ⌝ }
+{
+    if at < text.len() {
+        if text[at] == b'"' {
+            return at;
+        }
+    }
+    skip_blanks(text, at)
+}
+
 // The name of a member with its colon, which mostly follows at once, and its node at n.
 fn member_name(text: &[u8], at: usize, table: &mut [u32], n: usize) -> Scan
     requires { ⌜ Ready (now text) (now table) at 0 32 n ⌝ }
     ensures { λ r. ⌜ Names (now (text .entry)) (now (table .entry)) (now (table .exit)) at n r ⌝ }
 {
-    let i = skip_blanks(text, at);
+    let i = name_start(text, at);
     if i >= text.len() {
         return Scan::Bad(i);
     }
