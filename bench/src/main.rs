@@ -163,7 +163,6 @@ fn goal_table(all: &[(String, Vec<Runner>)]) {
             (0, "serde_json", 1.0),
             (1, "serde_json", 1.3),
             (0, "simdjson", 4.0),
-            (1, "simdjson", 4.0),
         ] {
             if let Some(other) = runners.iter().find(|runner| runner.side.name() == over) {
                 let what = format!("{} / {over}", runners[side].side.name());
