@@ -37,12 +37,12 @@ use Rattle.judging.proofs.Alone.{alone}
 module _ (x : List ℕ) where
   pub screen-long : 65535 < length x → Screens x (screened.Refused (record { rule = broken.TooLong; place = 65535 }))
   unfolding Screens numberOf
-  screen-long h = verdict-long x h
+  screen-long h = (verdict-long x h, omega arith)
 
   module _ {n : ℕ} (short : length x ≤ 65535) (whole : n ≡ wholeLength x) where
     pub screen-odd : n < length x → Screens x (screened.Refused (record { rule = broken.NotUtf8; place = n }))
     unfolding Screens numberOf
-    screen-odd h = verdict-odd x short (omega arith) ∙ ap (refused 2) (sym whole)
+    screen-odd h = (verdict-odd x short (omega arith) ∙ ap (refused 2) (sym whole), omega arith)
 
     pub screen-passed : length x ≤ n → Screens x screened.Passed
     unfolding Screens
@@ -57,11 +57,11 @@ module _ (x t₀ t : List ℕ) {r : Parsed} (h : Tells x t₀ t r) where
 
   pub open-bad : {p : ℕ} → r ≡ parse.Bad p → Opens x t (opened.Refused (record { rule = broken.NotJson; place = p }))
   unfolding Tells Opens numberOf parsed
-  open-bad e = ap parsed (subst (Tells x t₀ t) e h .1)
+  open-bad e = (ap parsed (subst (Tells x t₀ t) e h .1), omega arith)
 
   pub open-deep : {p : ℕ} → r ≡ parse.Deep p → Opens x t (opened.Refused (record { rule = broken.TooDeep; place = p }))
   unfolding Tells Opens numberOf parsed
-  open-deep e = ap parsed (subst (Tells x t₀ t) e h .1)
+  open-deep e = (ap parsed (subst (Tells x t₀ t) e h .1), omega arith)
 
   -- neither happens
   pub open-long : (o : Opened) → Room x t₀ → r ≡ parse.Long → Opens x t o

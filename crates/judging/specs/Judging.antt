@@ -38,15 +38,15 @@ pub record Room (x t : List ℕ) : Type 0 where
   pub short : length x ≤ 65535
   pub long : 3 * length x + 99 ≤ 2 * length t
 
--- rules 1 and 2 were kept, or the text x is refused
+-- rules 1 and 2 were kept, or the text x is refused by one of them
 unfoldable pub Screens : List ℕ → Screened → Type 0
 Screens x screened.Passed = (length x ≤ 65535) × (verdict.verdict x ≡ verdict.parsed (read x))
-Screens x (screened.Refused f) = verdict.verdict x ≡ refusal f
+Screens x (screened.Refused f) = (verdict.verdict x ≡ refusal f) × (numberOf (f .rule) ≤ 2)
 
 -- the first n words of the table t are those of the text's tree, or the text x is refused by rule 3 or 4
 unfoldable pub Opens : List ℕ → List ℕ → Opened → Type 0
 Opens x t (opened.Tree n) = Stands x t n
-Opens x t (opened.Refused f) = verdict.parsed (read x) ≡ refusal f
+Opens x t (opened.Refused f) = (verdict.parsed (read x) ≡ refusal f) × (numberOf (f .rule) ≤ 4)
 
 -- the least fault of the rules 5 to 17 of the tree that the text x is read as, and the index over the table t of its city objects
 pub record Examined (x t : List ℕ) (w : Walked) : Type 0 where

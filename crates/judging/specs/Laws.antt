@@ -33,7 +33,7 @@ module _ (x : List ℕ) {r : Screened} (h : Screens x r) where
 
   pub screened-refused : {f : Refusal} → r ≡ screened.Refused f → told (Refused f) ≡ verdict x
   unfolding Screens told
-  screened-refused e = sym (subst (Screens x) e h)
+  screened-refused e = sym (subst (Screens x) e h .0)
 
 -- ---- rules 3 and 4
 
@@ -44,7 +44,7 @@ module _ (x t : List ℕ) {r : Opened} (h : Opens x t r) where
 
   pub opened-refused : {f : Refusal} → r ≡ opened.Refused f → told (Refused f) ≡ parsed (read x)
   unfolding Opens told
-  opened-refused e = sym (subst (Opens x t) e h)
+  opened-refused e = sym (subst (Opens x t) e h .0)
 
 -- ---- rules 5 to 17
 
