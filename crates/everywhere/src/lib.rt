@@ -11,7 +11,7 @@ ghost use Rattle.everywhere.specs.Parts.{AnyPart, PartGives, own5, own6,
 ghost use Rattle.everywhere.specs.Chains.{hashFrom, chainOf, ChainNode, InChain, ChainAt, ChainGives, LongObject};
 ghost use Rattle.strings.specs.Spans.{Span, decodeAt, ahead};
 
-// A word of the table.
+// A number as one of full width.
 fn wide(w: u32) -> usize
     ensures { λ r. ⌜ r ≡ w ⌝ }
 {

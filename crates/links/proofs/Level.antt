@@ -9,7 +9,8 @@ use lib.Dec.{ltb, leb}
 use borrow.Author.Tests.{not-true, leb-true, leb-false, lt-ltb, le-ltb}
 use borrow.Author.Needs.{needs}
 use Rattle.strings.specs.Spans.{decodeAt}
-use Rattle.words.specs.Words.{objectWords, codeOf, isSecondLevel, looksSecondLevel}
+use Rattle.words.specs.Words.{objectWords, codeOf, isSecondLevel}
+use Rattle.words.specs.Tables.{looksSecondLevel}
 use Rattle.words.specs.Laws.{not-second}
 use Rattle.nodes.specs.Access.{isStringValue}
 use Rattle.nodes.specs.Says.{Gives, GivesFound}

@@ -10,7 +10,7 @@ use mathlib.Core.List.{List, [], _∷_, _++_, append-nil, List·Memᴰ, List·Me
 use lib.ListN.{length, getD, take, drop, length-append, take-append-drop, drop-of-length-le}
 use lib.Dec.{eqb, leb, ltb}
 use lib.Seq.{slice, slice-cons, length-slice, length-take-le}
-use borrow.Author.Tests.{ltb-true, not-true, ne-eqb}
+use borrow.Author.Tests.{ltb-true, not-true, ne-eqb, eqb-false}
 use Rattle.utf8.specs.Utf8.{encode, same}
 use Rattle.utf8.specs.Laws.{both-left, both-right, neither}
 use Rattle.strings.specs.Spans.{Span, decodeAt, unpairedAt, pending, ahead, away, Hands, Steps, firstOf, hasByte, beginApart}
@@ -153,9 +153,9 @@ module _ {x : List ℕ} {at end : ℕ} (s : Span x at end) where
   unfolding decodeAt decode pieces decoded
   at-end l = ap decode (no-byte l)
 
-first-stands : {x : List ℕ} {at end : ℕ} → Span x at end → ltb at end ≡ true → not (eqb (getD x at 0) 92) ≡ true → decodeAt x at end ≡ getD x at 0 ∷ decoded (pieces plain 1 (slice (suc at) end x))
-unfolding decodeAt decode pieces ended next decoded
-first-stands {x} {at} {end} s l n = rw (slice-cons at end x 0 (ltb-true at end l) (s .high), not-true (eqb (getD x at 0) 92) n)
+-- the same, where the tests are Booleans
+first-stands : {x : List ℕ} {at end : ℕ} → Span x at end → ltb at end ≡ true → not (eqb (getD x at 0) 92) ≡ true → decodeAt x at end ≡ getD x at 0 ∷ decodeAt x (at + 1) end
+first-stands {x} {at} {end} s l n = at-plain s (ltb-true at end l) (eqb-false (getD x at 0) 92 (not-true (eqb (getD x at 0) 92) n))
 
 each : (a b c d e : Bool) → a && b && c && d && e ≡ true → (a ≡ true) × (b ≡ true) × (c ≡ true) × (d ≡ true) × (e ≡ true)
 each a b c d e q =

@@ -7,16 +7,16 @@ use mathlib.Core.Path.{_≡_, refl, ap, sym, _∙_}
 use mathlib.Core.Bool.{Bool, true, false, cond, not, _&&_, _||_}
 use mathlib.Core.List.{List, [], _∷_}
 use lib.ListN.{length, getD, drop}
-use lib.Seq.{slice-cons, getD-drop}
+use lib.Seq.{getD-drop}
 use lib.Dec.{eqb, leb}
 use borrow.Author.Tests.{ne-eqb, eqb-true, eqb-false, leb-true, le-leb, ltb-true}
 use Rattle.utf8.specs.Ascii.{ascii}
 use Rattle.utf8.specs.Utf8.{same}
 use Rattle.utf8.specs.Laws.{both-left, both-right, same-equal, never, unless}
-use Rattle.strings.specs.Strings.{next, ended, pieces, decoded, decode}
 use Rattle.strings.specs.Spans.{Span, decodeAt}
-use Rattle.strings.specs.Laws.{decodeAt-short}
-use Rattle.words.specs.Words.{objectWords, geometryWords, surfaceWords, codeFrom, codeOf, isOne, isSecondLevel, looksSecondLevel}
+use Rattle.strings.specs.Laws.{at-plain, decodeAt-short}
+use Rattle.words.specs.Words.{objectWords, geometryWords, surfaceWords, codeFrom, codeOf, isOne, isSecondLevel}
+use Rattle.words.specs.Tables.{looksSecondLevel}
 
 -- a text is one of the words exactly if its code is not 0
 one-if : (b : Bool) (n m : ℕ) (o : Bool) → 1 ≤ n → o ≡ not (eqb m 0) → (b || o) ≡ not (eqb (cond b n m) 0)
@@ -142,11 +142,6 @@ second-word t k e h =
     let w : t ≡ ascii (getD objectWords (16 + (k - 17)) "") = rw (← z) (code-word objectWords t k e (omega arith)) in
     rw (w, ← getD-drop 16 objectWords (k - 17) "") (long-at (drop 16 objectWords) (k - 17) second-long (second-count k (omega (arith, code-most objectWords t)) h))
 
--- a byte that is no backslash stands for itself
-first-byte : (x : List ℕ) (at end : ℕ) → at < end → end ≤ length x → (getD x at 0 ≡ 92 → ⊥) → getD (decodeAt x at end) 0 0 ≡ getD x at 0
-unfolding decodeAt decode pieces ended next decoded
-first-byte x at end l h n = rw (slice-cons at end x 0 l h, ne-eqb (getD x at 0) 92 n)
-
 -- the first byte of such a type is B or T, or a backslash stands in its place
 last-of : (o c : Bool) → c ≡ true → (o || c) ≡ true
 last-of true c e = refl
@@ -166,7 +161,7 @@ second-looks x at end s e =
     let h : 10 ≤ end - at = omega (arith, l, decodeAt-short x at end (s .high)) in
     rw (le-leb 10 (end - at) h)
     (looks-if (eqb (getD x at 0) 92) (getD t 0 0) (getD x at 0) refl
-    (λ c. first-byte x at end (omega arith) (s .high) (eqb-false (getD x at 0) 92 c))
+    (λ c. ap (λ l. getD l 0 0) (at-plain s (omega arith) (eqb-false (getD x at 0) 92 c)))
     (both-right (leb 10 (length t)) _ w))
 
 -- a string that does not look like a type of the second level is none

@@ -1,8 +1,8 @@
--- What the private functions are asked and tell: the number of the first of some words that a text is, where the words stand one after the other in a string of bytes; and a table of the permitted geometries.
+-- What the functions are asked and tell besides the codes: the number of the first of some words that a text is, where the words stand one after the other in a string of bytes; a table of the permitted geometries; and a look at a string before it is compared with the types.
 -- Assumes nothing: these are definitions.
 use Prim.Native.Nat.{ℕ, _+_, _-_, _/_, _^_}
 use Prim.Native.String.{String}
-use mathlib.Core.Bool.{Bool, true, cond, _&&_}
+use mathlib.Core.Bool.{Bool, true, cond, _&&_, _||_}
 use mathlib.Core.List.{List, [], _∷_}
 use lib.ListN.{take, drop, getD}
 use lib.Bits.{bitAnd}
@@ -42,3 +42,7 @@ bitAt rows o c = eqb (bitAnd (getD rows o 0 / 2 ^ c) 1) 1
 unfoldable pub tabled : List ℕ → Bool
 unfolding bitAt isPermitted
 tabled rows = each (λ o. each (λ c. agree (bitAt rows o c) (isPermitted o c)) 0 8) 0 34
+
+-- may the string of the text x from at up to end be a type of the second level? Those have at least ten bytes and begin with B or T; an escape may stand for the first byte.
+unfoldable pub looksSecondLevel : List ℕ → ℕ → ℕ → Bool
+looksSecondLevel x at end = leb 10 (end - at) && (eqb (getD x at 0) 66 || eqb (getD x at 0) 84 || eqb (getD x at 0) 92)

@@ -1,10 +1,10 @@
 -- The words of document 01, section "Types, depths and codes", once and in its order. Assumes nothing: these are definitions.
-use Prim.Native.Nat.{ℕ, _+_, _-_}
+use Prim.Native.Nat.{ℕ, _+_}
 use Prim.Native.String.{String}
 use mathlib.Core.Bool.{Bool, false, cond, _&&_, _||_}
 use mathlib.Core.List.{List, [], _∷_}
 use lib.ListN.{length, getD}
-use lib.Dec.{eqb, leb, ltb}
+use lib.Dec.{eqb, ltb}
 use Rattle.utf8.specs.Ascii.{ascii}
 use Rattle.utf8.specs.Utf8.{same}
 use Rattle.json.specs.Machine.{isDigit}
@@ -70,10 +70,6 @@ isLod (a ∷ b ∷ c ∷ d ∷ t) = false
 -- is the code one of the second level?
 unfoldable pub isSecondLevel : ℕ → Bool
 isSecondLevel code = ltb 16 code
-
--- may the string of the text x from at up to end be a type of the second level? Those have at least ten bytes and begin with B or T; an escape may stand for the first byte.
-unfoldable pub looksSecondLevel : List ℕ → ℕ → ℕ → Bool
-looksSecondLevel x at end = leb 10 (end - at) && (eqb (getD x at 0) 66 || eqb (getD x at 0) 84 || eqb (getD x at 0) 92)
 
 -- boundary depth and values depth, by a geometry's code
 unfoldable pub depth : ℕ → ℕ
