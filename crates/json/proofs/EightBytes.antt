@@ -9,10 +9,14 @@ use native.Mathlib.Omega.{arith}
 use lib.Arith.{mod-mul, digits-lt}
 use lib.Bits.{bitAnd, bitOr, bitXor, and-mod, or-mod, xor-mod, and-shr, or-shr, xor-shr, or-shifted-r}
 use lib.Count.{trailingZeros, under, trailing-le}
-use lib.Dec.{T, leb, ltb, leb→le, ltb→lt}
-use lib.ListN.{getD}
+use lib.Dec.{T, leb, ltb, eqb, leb→le, ltb→lt}
+use lib.ListN.{length, getD}
 use lib.Pow.{pow-pos, pow-add, mod-pow-add, shl-exact}
-use Rattle.json.specs.Says.{Unescaped, byteAt, Eight, Marked}
+use borrow.Author.Tests.{eqb-true}
+use Rattle.utf8.specs.Ascii.{ascii}
+use Rattle.utf8.specs.Finite.{each-below}
+use Rattle.utf8.specs.Laws.{never}
+use Rattle.json.specs.Says.{Unescaped, byteAt, Eight, Marked, Typed}
 
 -- the number with k bytes, each of them c
 abbrev rep : ℕ → ℕ → ℕ
@@ -261,3 +265,14 @@ module _ (text : List ℕ) (i : ℕ) (bytes : (j : ℕ) → getD text j 0 < 256)
 
   pub eight-of : Eight text i (joined text i 7)
   eight-of = record { same = λ j l. joined-byte 7 j (omega arith) (omega arith) }
+
+-- the bytes of the number that `is_type` looks for
+type-byte : (j : ℕ) → j < 8 → byteAt j 0x223a_2265_7079_7422 ≡ getD (ascii "\"type\":\"") j 0
+unfolding byteAt ascii
+type-byte j l = eqb-true _ _ (each-below (λ j. eqb (byteAt j 0x223a_2265_7079_7422) (getD (ascii "\"type\":\"") j 0)) 8 j refl l)
+
+pub typed : {text : List ℕ} {at x : ℕ} → Eight text at x → 8 ≤ length text - at → Typed text at (eqb x 0x223a_2265_7079_7422)
+typed {text} {at} {x} e l = record { inside = λ q. omega arith; same = λ q j h. sym (e .same j h) ∙ rw (eqb-true x 0x223a_2265_7079_7422 q) (type-byte j h) }
+
+pub untyped : (text : List ℕ) (at : ℕ) → Typed text at false
+untyped text at = record { inside = λ q. absurd (never q refl); same = λ q. absurd (never q refl) }

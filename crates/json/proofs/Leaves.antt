@@ -1,6 +1,6 @@
 -- Nodes that hold no other: what is written, and the values and names that it stands for. Assumes nothing.
 use mathlib.Core.Path.{_≡_, refl, _∙_}
-use mathlib.Core.Bool.{true, false}
+use mathlib.Core.Bool.{Bool, true, false}
 use mathlib.Core.Option.{some}
 use mathlib.Core.Option as option
 use mathlib.Core.List.{List, [], _∷_}
@@ -8,22 +8,24 @@ use Prim.Native.Nat.{ℕ, _+_, _-_, _^_, _≤_, _<_}
 use native.Mathlib.Omega.{arith}
 use lib.ListN.{length, getD, set, length-set}
 use lib.Seq.{getD-set-same, getD-set-other, slice}
-use borrow.Author.Tests.{ne-eqb}
+use borrow.Author.Tests.{ne-eqb, ltb-true}
+use lib.Dec.{ltb}
 use Rattle.utf8.specs.Ascii.{ascii}
+use Rattle.utf8.specs.Finite.{each-below}
 use Rattle.json.specs.Tree.{Json, Members}
 use Rattle.json.specs.Tree as tree
 use Rattle.json.specs.Machine.{Frame, Mode, value, step, go, bad, isBlank, isDigit}
 use Rattle.json.specs.Machine.Role.{name}
 use Rattle.json.specs.Machine.Mode.{want, name1, colon, neg, nought, int, mant, chars}
 use Rattle.json.specs.Table.{size, Words, Quoted, isNumeric, Sub, null, bool, num, str}
-use Rattle.json.specs.Says.{from, Within, Reads, Stays, Skips, blanks, digital, numbered, charsOf, closedOf, ReadsString, WordAt, literalOf, ReadsWord, Placed, Fits, Wrote, Quote, Leaf, Scalar, Digits, Ready, Atom, Names}
+use Rattle.json.specs.Says.{from, Within, Reads, Stays, Skips, blanks, digital, numbered, charsOf, closedOf, ReadsString, Unescaped, Typed, WordAt, literalOf, ReadsWord, Placed, Fits, Wrote, Quote, Leaf, Scalar, Digits, Ready, Atom, Names}
 use Rattle.json.specs.declared.Scan.{Scan}
 use Rattle.json.specs.declared.Scan.the-variants.{End, Bad}
 use Rattle.json.specs.declared.Walk.the-variants as walk
 use Rattle.json.specs.Steps.{nought-else, want-quote, want-minus, want-0, want-digit, want-t, want-f, want-n, want-no, name-quote, name-no, colon-yes, colon-no}
 use Rattle.json.specs.Laws.{over-blank, is-digit, under-digit, over-digit}
 use Rattle.json.proofs.Moves.{moves, dies, short, stays-none}
-use Rattle.json.proofs.Parts.{looks, int-digits, mant-done}
+use Rattle.json.proofs.Parts.{looks, int-digits, mant-done, string-start, string-run, string-shut}
 
 -- three words are written at n
 pub three : (t₀ : List ℕ) (n u v w : ℕ) → n + 2 < length t₀ → Wrote t₀ (set (set (set t₀ n u) (n + 1) v) (n + 2) w) n u v w
@@ -240,3 +242,35 @@ module _ {x : List ℕ} {at i : ℕ} (k : Skips blanks isBlank x at i) where
 
         pub named : (t₀ t : List ℕ) (n : ℕ) → j < length x → getD x j 0 ≡ 58 → Wrote t₀ t n i e (n + 3) → Names x t₀ t at n (End (j + 1))
         named t₀ t n h c w = colon-at (k₂ .stays) t₀ t n h c w
+
+pub at-quote : {text : List ℕ} {at : ℕ} → at ≤ length text → getD text at 0 ≡ 34 → Skips blanks isBlank text at at
+at-quote {text} {at} h b = record { stays = stays-none blanks text at h; stop = λ l. over-blank (getD text at 0) (omega arith) }
+
+-- the name that `is_type` found, and its colon
+letter : (j : ℕ) → j < 4 → Unescaped (getD (ascii "\"type\":\"") (1 + j) 0)
+unfolding ascii
+letter j l =
+    let h = ltb-true 92 (getD (ascii "\"type\":\"") (1 + j) 0) (each-below (λ j. ltb 92 (getD (ascii "\"type\":\"") (1 + j) 0)) 4 j refl l) in
+    record { no-quote = λ e. omega arith; no-backslash = λ e. omega arith; no-control = omega arith }
+
+module _ {x : List ℕ} {at : ℕ} {r : Bool} (k : Typed x at r) (q : r ≡ true) where
+  type-string : ReadsString x (at + 1) (End (at + 6))
+  unfolding ascii
+  type-string =
+      let h = k .inside q in
+      let u : (j : ℕ) → j < 4 → Unescaped (getD x (at + 1 + j) 0) = λ j l. let e : at + 1 + j ≡ at + (1 + j) = omega arith in rw (e, k .same q (1 + j) (omega arith)) (letter j l) in
+      let e : at + 1 + 4 ≡ at + 5 = omega arith in
+      let f : at + 5 + 1 ≡ at + 6 = omega arith in
+      rw f at (string-shut (rw e at (string-run {text = x} {at = at + 1} {i = at + 1} (string-start (omega arith)) 4 (omega arith) u)) (omega arith) (k .same q 5 (omega arith)))
+
+  pub type-fits : {t : List ℕ} {n : ℕ} → Ready x t at 0 32 n → Fits t n at (at + 6) (n + 3)
+  type-fits y = let h = k .inside q in record { room = omega (arith, y .words, y .fits); start = omega (arith, y .texts); end = omega (arith, y .texts); next = omega (arith, y .texts, y .fits) }
+
+  pub type-named : (t₀ t : List ℕ) (n : ℕ) → Wrote t₀ t n at (at + 6) (n + 3) → Names x t₀ t at n (End (at + 7))
+  unfolding ascii
+  type-named t₀ t n w =
+      let h = k .inside q in
+      let z : at + 0 ≡ at = omega arith in
+      let b : getD x at 0 ≡ 34 = rw z at (k .same q 0 (omega arith)) in
+      let f : at + 6 + 1 ≡ at + 7 = omega arith in
+      rw f at (named-at-once (at-quote (omega arith) b) (omega arith) b type-string refl t₀ t n (omega arith) (k .same q 6 (omega arith)) w)

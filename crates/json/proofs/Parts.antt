@@ -236,7 +236,7 @@ pub escape-less : {text : List ℕ} (i : ℕ) {e : ℕ} {r : Scan} → Reads tex
 escape-less i p q = let l = end-low p q in let h = end-high p q in omega arith
 
 -- several bytes that a string has as they stand
-string-run : {text : List ℕ} {at i : ℕ} → Reads text charsOf (to charsOf) at (End i) → (k : ℕ) → i + k ≤ length text → ((j : ℕ) → j < k → Unescaped (getD text (i + j) 0)) → Reads text charsOf (to charsOf) at (End (i + k))
+pub string-run : {text : List ℕ} {at i : ℕ} → Reads text charsOf (to charsOf) at (End i) → (k : ℕ) → i + k ≤ length text → ((j : ℕ) → j < k → Unescaped (getD text (i + j) 0)) → Reads text charsOf (to charsOf) at (End (i + k))
 string-run {i = i} h zero l u = rw (add-zero i) h
 string-run {i = i} h (suc k) l u =
     let b = u k (omega arith) in

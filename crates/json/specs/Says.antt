@@ -7,6 +7,7 @@ use mathlib.Core.List.{List, [], _∷_}
 use lib.ListN.{length, getD, drop}
 use lib.Count.{trailingZeros}
 use lib.Dec.{T}
+use Rattle.utf8.specs.Ascii.{ascii}
 use Rattle.json.specs.Tree.{Json, Members, Name}
 use Rattle.json.specs.Machine.{Frame, Role, Mode, Outcome, bad, tooDeep, object, run, isBlank, closed, numeral, literal}
 use Rattle.json.specs.Machine.Mode.{want, first, name0, name1, colon, got, chars, esc, hex, neg, nought, int, dot, frac, mant, exp, sign, exps, lit}
@@ -147,6 +148,11 @@ pub record Marked (x m : ℕ) : Type 0 where
 pub record Passes (text : List ℕ) (at r : ℕ) : Type 0 where
   pub high : r ≤ length text
   pub reads : Reads text charsOf (to charsOf) at (scan.End r)
+
+-- what `is_type` tells: if it is so, the eight bytes from the offset at on are these
+pub record Typed (text : List ℕ) (at : ℕ) (r : Bool) : Type 0 where
+  pub inside : r ≡ true → at + 8 ≤ length text
+  pub same : r ≡ true → (j : ℕ) → j < 8 → getD text (at + j) 0 ≡ getD (ascii "\"type\":\"") j 0
 
 -- a word that is being read: where it began, and what it stands for
 pub record WordAt : Type 0 where

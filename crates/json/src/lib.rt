@@ -5,7 +5,7 @@ ghost use mathlib.Core.Path.{_≡_};
 ghost use lib.ListN.{length};
 ghost use Rattle.json.specs.Machine.{isBlank, isDigit, isHex, isEscape};
 ghost use Rattle.json.specs.Machine.Mode.{want, first, name0, neg, nought, int, dot, mant, exp, sign};
-ghost use Rattle.json.specs.Says.{blanks, digital, Skips, Reads, to, numbered, charsOf, escOf, hexOf, ReadsString, Eight, Marked, Passes, ReadsWord, Fits, Wrote, Plain, Quote, Scalar, Digits, Atom, Ready, Opened, Told, Names, Member};
+ghost use Rattle.json.specs.Says.{blanks, digital, Skips, Reads, to, numbered, charsOf, escOf, hexOf, ReadsString, Eight, Marked, Passes, Typed, ReadsWord, Fits, Wrote, Plain, Quote, Scalar, Digits, Atom, Ready, Opened, Told, Names, Member};
 ghost use Rattle.json.specs.Parse.{Tells};
 
 // What reading a text gives: how many words of the table are its tree's; the offset of a byte that no JSON text has there, or of
@@ -446,11 +446,26 @@ fn name_start(text: &[u8], at: usize) -> usize
     skip_blanks(text, at)
 }
 
+// Does `"type":"` stand here: the name that CityJSON texts have most, its colon, and the quote of a string?
+fn is_type(text: &[u8], at: usize) -> bool
+    requires { ⌜ at ≤ length (now text) ⌝ }
+    ensures { λ r. ⌜ Typed (now (text .entry)) at r ⌝ }
+{
+    if text.len() - at < 8 {
+        return false;
+    }
+    eight(text, at) == 0x223a_2265_7079_7422
+}
+
 // The name of a member with its colon, which mostly follows at once, and its node at n.
 fn member_name(text: &[u8], at: usize, table: &mut [u32], n: usize) -> Scan
     requires { ⌜ Ready (now text) (now table) at 0 32 n ⌝ }
     ensures { λ r. ⌜ Names (now (text .entry)) (now (table .entry)) (now (table .exit)) at n r ⌝ }
 {
+    if is_type(text, at) {
+        put_node(table, n, at, at + 6, n + 3);
+        return Scan::End(at + 7);
+    }
     let i = name_start(text, at);
     if i >= text.len() {
         return Scan::Bad(i);
