@@ -9,13 +9,13 @@ use native.Mathlib.Omega.{arith}
 use lib.Arith.{mod-mul, digits-lt}
 use lib.Bits.{bitAnd, bitOr, bitXor, and-mod, or-mod, xor-mod, and-shr, or-shr, xor-shr, or-shifted-r}
 use lib.Count.{trailingZeros, under, trailing-le}
-use lib.Dec.{T, leb, ltb, eqb, leb→le, ltb→lt}
+use lib.Dec.{leb, ltb, eqb}
 use lib.ListN.{length, getD}
 use lib.Pow.{pow-pos, pow-add, mod-pow-add, shl-exact}
-use borrow.Author.Tests.{eqb-true}
+use borrow.Author.Tests.{ltb-true, leb-true, le-ltb, eqb-true}
 use Rattle.utf8.specs.Ascii.{ascii}
 use Rattle.utf8.specs.Finite.{each-below}
-use Rattle.utf8.specs.Laws.{never}
+use Rattle.utf8.specs.Laws.{both-left, both-right, never}
 use Rattle.json.specs.Says.{Unescaped, byteAt, Eight, Marked, Typed}
 
 -- the number with k bytes, each of them c
@@ -50,49 +50,23 @@ unfoldable fine : ℕ → Bool
 unfolding mark
 fine b = ltb 0 (mark b) || (leb 32 b && (ltb 0 (bitXor b 34) && ltb 0 (bitXor b 92)))
 
--- that holds for all bytes, which is computed
-unfoldable allFine : ℕ → Bool
-unfolding fine
-allFine zero = true
-allFine (suc n) = fine n && allFine n
-
-both-left : (a b : Bool) → T (a && b) → T a
-both-left true b h = tt
-both-left false b h = absurd h
-
-both-right : (a b : Bool) → T (a && b) → T b
-both-right true b h = h
-both-right false b h = absurd h
-
-second : (a b : Bool) → T (a || b) → (T a → ⊥) → T b
-second true b h n = absurd (n tt)
-second false b h n = h
-
-fine-below : (n b : ℕ) → T (allFine n) → b < n → T (fine b)
-unfolding allFine
-fine-below zero b h l = absurd (omega arith)
-fine-below (suc n) b h l = by (decLt b n) (λ p. fine-below n b (both-right (fine n) (allFine n) h) p)
-  where
-    by : Dec (b < n) → (b < n → T (fine b)) → T (fine b)
-    by (yes p) rest = rest p
-    by (no q) rest = let e : b ≡ n = omega arith in rw e (both-left (fine n) (allFine n) h)
-
-all-fine : T (allFine 256)
-unfolding allFine
-all-fine = tt
-
 -- what is so known of a byte without a mark
 record Clear (b : ℕ) : Type 0 where
   pub no-control : 32 ≤ b
   pub some-34 : 1 ≤ bitXor b 34
   pub some-92 : 1 ≤ bitXor b 92
 
+-- it holds for all bytes, which is computed
 clear : (b : ℕ) → b < 256 → mark b ≡ 0 → Clear b
 unfolding fine
 clear b l e =
-    let f : T (leb 32 b && (ltb 0 (bitXor b 34) && ltb 0 (bitXor b 92))) = second (ltb 0 (mark b)) _ (fine-below 256 b all-fine l) (λ t. let h = ltb→lt 0 (mark b) t in omega arith) in
+    let f : (leb 32 b && (ltb 0 (bitXor b 34) && ltb 0 (bitXor b 92))) ≡ true = second (ltb 0 (mark b)) _ (each-below fine 256 b refl l) (le-ltb 0 (mark b) (omega arith)) in
     let g = both-right (leb 32 b) _ f in
-    record { no-control = leb→le 32 b (both-left (leb 32 b) _ f); some-34 = ltb→lt 0 (bitXor b 34) (both-left (ltb 0 (bitXor b 34)) _ g); some-92 = ltb→lt 0 (bitXor b 92) (both-right (ltb 0 (bitXor b 34)) _ g) }
+    record { no-control = leb-true 32 b (both-left (leb 32 b) _ f); some-34 = ltb-true 0 (bitXor b 34) (both-left (ltb 0 (bitXor b 34)) _ g); some-92 = ltb-true 0 (bitXor b 92) (both-right (ltb 0 (bitXor b 34)) _ g) }
+  where
+    second : (a b : Bool) → (a || b) ≡ true → a ≡ false → b ≡ true
+    second true b h n = absurd (never refl n)
+    second false b h n = h
 
 unescaped : (b : ℕ) → Clear b → Unescaped b
 unescaped b c = record { no-quote = λ e. quote (c .some-34) e; no-backslash = λ e. backslash (c .some-92) e; no-control = c .no-control }
