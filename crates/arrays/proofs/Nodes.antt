@@ -14,6 +14,7 @@ use mir.Val.{Fits, toZ, ofZ}
 use mir.Facts.{toZ-ofZ}
 use borrow.Author.Needs.{sfits-of}
 use borrow.Author.Tests.{not-true}
+use Rattle.utf8.specs.Laws.{clash}
 use Rattle.numerals.specs.Numerals.{Decimal, pairOf, integer, fits32}
 use Rattle.numerals.specs.Reading.{pairIn, IsWhole, Quick}
 use Rattle.numerals.specs.declared.Numeral.{Numeral}
@@ -93,7 +94,7 @@ module _ {x t : List ℕ} {i : ℕ} where
     pair-out k = absurd (go (h .node .value) (h .node .stands))
       where
         go : (v : Json) → Sub x t i v → ⊥
-        go v s = let z : _≡_ {A = Option Decimal} option.none (some (decimalOf v)) = rw k at (paired v s) in let y : _≡_ {A = ℕ} 0 1 = cc in omega arith
+        go v s = let z : _≡_ {A = Option Decimal} option.none (some (decimalOf v)) = rw k at (paired v s) in clash cc
 
     pub pair-wrote : {n k : ℤ} {b c : ℕ} {d₀ d₁ d₂ : List ℕ} {to r₁ r : ℕ} → a ≡ variant.Pair n k → b ≡ twos (toZ w64 (ofZ w64 n)) → c ≡ twos (toZ w64 (ofZ w64 k)) → Writes (le 8 b) d₀ d₁ to r₁ → Writes (le 2 c) d₁ d₂ r₁ r → Wrote (λ v. layDecimal (decimalOf v)) x t i d₀ d₂ to r
     unfolding pairIn layDecimal zeroIfNone

@@ -6,14 +6,11 @@ use mathlib.Core.Bool.{Bool, true, false}
 use mathlib.Core.List.{List}
 use lib.ListN.{length, getD}
 use lib.Seq.{slice}
+use Rattle.utf8.specs.Laws.{clash}
 use Rattle.json.specs.Tree.{Json, Items, _▸_, Members, member, Name, placeOf, endOf}
 use Rattle.json.specs.Tree as tree
 use Rattle.json.specs.Table.{size, sizes, widths, Words, Quoted, lead, Sub, null, bool, num, str, arr, obj, Subs, nil, cons, Fields, last, field}
 use Rattle.json.specs.Laws.{Kind, kindOf, kind-of, words, size-pos}
-
--- values of two kinds
-clash : {A : Type 0} → _≡_ {A = ℕ} 0 1 → A
-clash z = absurd (omega arith)
 
 same-lead : (b c : Bool) → lead b ≡ lead c → b ≡ c
 same-lead true true h = refl

@@ -8,6 +8,7 @@ use lib.ListN.{length, getD}
 use lib.Seq.{slice}
 use borrow.Author.Needs.{needs}
 use borrow.Author.Tests.{eq-eqb, ne-eqb}
+use Rattle.utf8.specs.Laws.{clash}
 use Rattle.strings.specs.Strings.{unpairedFrom}
 use Rattle.strings.specs.Spans.{Span, unpairedAt, firstOf}
 use Rattle.strings.specs.Laws.{Rising, unpaired-rising, found-within}
@@ -50,18 +51,18 @@ unfolding isStringValue own5
 no-string (tree.null p e) h = refl
 no-string (tree.bool p e b) h = refl
 no-string (tree.num p e raw) h = refl
-no-string (tree.str p e raw) h = absurd (let z : _≡_ {A = ℕ} 0 1 = cc in omega arith)
+no-string (tree.str p e raw) h = clash cc
 no-string (tree.arr p e vs) h = refl
 no-string (tree.obj p e ms) h = refl
 
 own-string : (v : Json) → isStringValue v ≡ true → own5 (value v) ≡ unpairedFrom (tree.placeOf v + 1) (rawOf v)
 unfolding isStringValue own5 tree.placeOf rawOf
-own-string (tree.null p e) h = absurd (let z : _≡_ {A = ℕ} 0 1 = cc in omega arith)
-own-string (tree.bool p e b) h = absurd (let z : _≡_ {A = ℕ} 0 1 = cc in omega arith)
-own-string (tree.num p e raw) h = absurd (let z : _≡_ {A = ℕ} 0 1 = cc in omega arith)
+own-string (tree.null p e) h = clash cc
+own-string (tree.bool p e b) h = clash cc
+own-string (tree.num p e raw) h = clash cc
 own-string (tree.str p e raw) h = refl
-own-string (tree.arr p e vs) h = absurd (let z : _≡_ {A = ℕ} 0 1 = cc in omega arith)
-own-string (tree.obj p e ms) h = absurd (let z : _≡_ {A = ℕ} 0 1 = cc in omega arith)
+own-string (tree.arr p e vs) h = clash cc
+own-string (tree.obj p e ms) h = clash cc
 
 -- a part that starts with a quote is a string or a name
 record StringPart (x t : List ℕ) (i : ℕ) (d : Part) : Type 0 where
@@ -97,13 +98,13 @@ rising-least rule b n e (p ∷ ps) h r =
 
 first-least : (rule b n e p : ℕ) (ps : List ℕ) → Rising n e ps → firstOf ps ≡ At p → least b (map (fault rule) ps) ≡ min b (fault rule p)
 unfolding least fault Rising firstOf
-first-least rule b n e p [] r f = absurd (let z : _≡_ {A = ℕ} 0 1 = cc in omega arith)
+first-least rule b n e p [] r f = clash cc
 first-least rule b n e p (q ∷ ps) r f = let z : q ≡ p = cc in rising-least rule (min b (fault rule q)) (q + 1) e ps (omega arith) (r .2) ∙ ap (λ (m : ℕ). min b (fault rule m)) z
 
 first-none : (ps : List ℕ) → firstOf ps ≡ Nothing → ps ≡ []
 unfolding firstOf
 first-none [] f = refl
-first-none (q ∷ ps) f = absurd (let z : _≡_ {A = ℕ} 0 1 = cc in omega arith)
+first-none (q ∷ ps) f = clash cc
 
 module _ {x t : List ℕ} {i p : ℕ} (a : AnyPart x t i) (q : p ≡ getD t i 0) (h : getD x p 0 ≡ 34) where
   any-string : {d : Part} → Stands x t i d → StringPart x t i d

@@ -9,6 +9,7 @@ use lib.ListN.{length, getD}
 use mir.Syntax.{w64}
 use mir.Val.{Fits}
 use borrow.Author.Tests.{not-true, not-false}
+use Rattle.utf8.specs.Laws.{clash}
 use Rattle.strings.specs.Spans.{Span, decodeAt}
 use Rattle.json.specs.Tree.{Json}
 use Rattle.nodes.specs.Access.{isStringValue, textOf}
@@ -78,7 +79,7 @@ unfolding isStringValue textOf
 no-text (Rattle.json.specs.Tree.null p e) h = refl
 no-text (Rattle.json.specs.Tree.bool p e b) h = refl
 no-text (Rattle.json.specs.Tree.num p e raw) h = refl
-no-text (Rattle.json.specs.Tree.str p e raw) h = absurd (let z : _≡_ {A = ℕ} 0 1 = cc in omega arith)
+no-text (Rattle.json.specs.Tree.str p e raw) h = clash cc
 no-text (Rattle.json.specs.Tree.arr p e vs) h = refl
 no-text (Rattle.json.specs.Tree.obj p e ms) h = refl
 

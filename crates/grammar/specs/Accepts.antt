@@ -10,6 +10,7 @@ use lib.ListN.{length, drop, drop-of-length-le, length-drop}
 use lib.Seq.{drop-cons}
 use lib.Dec.{eqb}
 use borrow.Author.Tests.{eqb-true, eqb-false}
+use Rattle.utf8.specs.Laws.{clash}
 use Rattle.json.specs.Tree.{Json, Members, Name}
 use Rattle.json.specs.Grammar.{At}
 use Rattle.json.specs.Machine.{Frame, Mode, Step, go, dead, deep, reads, bad, tooDeep, step, run, ending, finish, gotStep, isBlank, isDigit}
@@ -53,7 +54,7 @@ module _ {most : ℕ} {x : List ℕ} {t : Json} where
     where
       by : (ks : List Frame) → finish most x m ks n ≡ reads t → Acc most x t m ks n
       by [] r = let e : n ≡ length x = omega (arith, length-drop n x, ap length q) in done e r
-      by (k ∷ ks) r = let z : _≡_ {A = ℕ} 0 1 = cc in absurd (omega arith)
+      by (k ∷ ks) r = clash cc
   from-run (b ∷ bs) m ks n q l h = by (step most x m ks n b) refl (λ m′ ks′. from-run bs m′ ks′ (n + 1))
     where
       low : n < length x
@@ -64,8 +65,8 @@ module _ {most : ℕ} {x : List ℕ} {t : Json} where
 
       by : (y : Step) → step most x m ks n b ≡ y → ((m′ : Mode) (ks′ : List Frame) → drop (n + 1) x ≡ bs → n + 1 ≤ length x → run most x m′ ks′ (n + 1) bs ≡ reads t → Acc most x t m′ ks′ (n + 1)) → Acc most x t m ks n
       by (go m′ ks′) e ih = pass here e (ih m′ ks′ (rw (add-one n) (cc (drop-cons x n 0 low))) (omega (arith, low)) (rw e at h))
-      by dead e ih = let p : bad n ≡ reads t = rw e at h in let z : _≡_ {A = ℕ} 0 1 = cc in absurd (omega arith)
-      by deep e ih = let p : tooDeep n ≡ reads t = rw e at h in let z : _≡_ {A = ℕ} 0 1 = cc in absurd (omega arith)
+      by dead e ih = let p : bad n ≡ reads t = rw e at h in clash cc
+      by deep e ih = let p : tooDeep n ≡ reads t = rw e at h in clash cc
 
   -- a place from which the text is read is its end or has a byte
   pub next : {m : Mode} {ks : List Frame} {n : ℕ} → Acc most x t m ks n → Next most x t m ks n
@@ -88,10 +89,10 @@ module _ {most : ℕ} {x : List ℕ} {t : Json} where
         rw (em, es) at (h .acc)
 
     pub acc-dead : {A : Type 0} → step most x m ks n b ≡ dead → Acc most x t m ks n → A
-    acc-dead e a = let h = passed p a in let q : go (h .mode) (h .stack) ≡ dead = sym (h .goes) ∙ e in let z : _≡_ {A = ℕ} 0 1 = cc in absurd (omega arith)
+    acc-dead e a = let h = passed p a in let q : go (h .mode) (h .stack) ≡ dead = sym (h .goes) ∙ e in clash cc
 
     pub acc-deep : {A : Type 0} → step most x m ks n b ≡ deep → Acc most x t m ks n → A
-    acc-deep e a = let h = passed p a in let q : go (h .mode) (h .stack) ≡ deep = sym (h .goes) ∙ e in let z : _≡_ {A = ℕ} 0 1 = cc in absurd (omega arith)
+    acc-deep e a = let h = passed p a in let q : go (h .mode) (h .stack) ≡ deep = sym (h .goes) ∙ e in clash cc
 
     -- another mode that does alike
     pub acc-like : {m′ : Mode} {ks′ : List Frame} → step most x m ks n b ≡ step most x m′ ks′ n b → Acc most x t m ks n → Acc most x t m′ ks′ n
@@ -144,8 +145,8 @@ is? b c = by (eqb b c) refl
 
 -- a text does not end in such a mode, nor where a container is open
 pub not-whole : {A : Type 0} {n : ℕ} {t : Json} → bad n ≡ reads t → A
-not-whole e = let z : _≡_ {A = ℕ} 0 1 = cc in absurd (omega arith)
+not-whole e = clash cc
 
 -- nor where a container is open
 pub not-closed : {A : Type 0} {k : Frame} {ks : List Frame} → k ∷ ks ≡ [] → A
-not-closed e = let z : _≡_ {A = ℕ} 0 1 = cc in absurd (omega arith)
+not-closed e = clash cc

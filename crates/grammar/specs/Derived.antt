@@ -12,6 +12,7 @@ use lib.ListN.{length}
 use lib.Dec.{leb}
 use borrow.Author.Tests.{leb-true}
 use Rattle.utf8.specs.Ascii.{ascii}
+use Rattle.utf8.specs.Laws.{clash}
 use Rattle.json.specs.Tree.{Json, Items, _◂_, Members}
 use Rattle.json.specs.Tree as tree
 use Rattle.json.specs.Machine.{Frame, array, object, Role, value, Mode, go, dead, reads, bad, step, ending, isBlank, isDigit, closed, numeral, literal}
@@ -86,7 +87,7 @@ module _ {most : ℕ} {x : List ℕ} {t : Json} where
   relax {m} {m′} {ks} {n} w h (pass {m′ = m₁} {ks′ = ks₁} {b = b} p e a) = by (h b)
     where
       by : (step most x m ks n b ≡ dead) ⊎ (step most x m′ ks n b ≡ step most x m ks n b) → Acc most x t m′ ks n
-      by (inl d) = let z : _≡_ {A = ℕ} 0 1 = cc in absurd (omega arith)
+      by (inl d) = clash cc
       by (inr q) = pass p (q ∙ e) a
 
   -- a mode that besides takes digits, where the other one takes none
@@ -192,7 +193,7 @@ module _ {most : ℕ} {x : List ℕ} {t : Json} where
   -- the first element of an array and the first name of an object: where the byte c is dead in the mode m, the mode m′ does alike at all others
   opens : {m m′ : Mode} {ks ks′ : List Frame} (c : ℕ) → Blanks m → Blanks m′ → ((n : ℕ) → ending most x m n ≡ bad n) → ((n : ℕ) → step most x m ks n c ≡ dead)
       → ((n b : ℕ) → false ≡ isBlank b → (b ≡ c → ⊥) → step most x m′ ks′ n b ≡ step most x m ks n b) → {m₁ : Mode} {ks₁ : List Frame} {n : ℕ} → m₁ ≡ m → ks₁ ≡ ks → Acc most x t m₁ ks₁ n → Acc most x t m′ ks′ n
-  opens {m} c o o′ f d law {m₁} {n = n} em es (done q r) = let z : bad n ≡ reads t = sym (f n) ∙ (rw em at r) in let y : _≡_ {A = ℕ} 0 1 = cc in absurd (omega arith)
+  opens {m} c o o′ f d law {m₁} {n = n} em es (done q r) = let z : bad n ≡ reads t = sym (f n) ∙ (rw em at r) in clash cc
   opens {m} {m′} {ks} {ks′} c o o′ f d law {m₁} {ks₁} {n} em es (pass {m′ = m₂} {ks′ = ks₂} {b = b} p e a) = by (which (isBlank b)) (is? b c) (λ em′ es′. opens c o o′ f d law em′ es′ a)
     where
       e′ : step most x m ks n b ≡ go m₂ ks₂
@@ -200,7 +201,7 @@ module _ {most : ℕ} {x : List ℕ} {t : Json} where
 
       by : (true ≡ isBlank b) ⊎ (false ≡ isBlank b) → (b ≡ c) ⊎ (b ≡ c → ⊥) → (m₂ ≡ m → ks₂ ≡ ks → Acc most x t m′ ks′ (n + 1)) → Acc most x t m′ ks′ n
       by (inl w) i ih = let z : go m₂ ks₂ ≡ go m ks = sym e′ ∙ blank-stays o most x ks n b w in pass p (blank-stays o′ most x ks′ n b w) (ih (cc) (cc))
-      by (inr w) (inl q) ih = let z : dead ≡ go m₂ ks₂ = sym (d n) ∙ (rw q at e′) in let y : _≡_ {A = ℕ} 0 1 = cc in absurd (omega arith)
+      by (inr w) (inl q) ih = let z : dead ≡ go m₂ ks₂ = sym (d n) ∙ (rw q at e′) in clash cc
       by (inr w) (inr h) ih = pass p (law n b w h ∙ e′) a
 
   -- what may follow an array's bracket

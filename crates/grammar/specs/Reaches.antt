@@ -7,6 +7,7 @@ use mathlib.Core.Path.{_≡_, refl, sym, _∙_, ap}
 use mathlib.Core.List.{List, [], _∷_, _++_, append-assoc}
 use lib.ListN.{length, take, drop, length-append, length-drop, take-append-drop, List·getD-append}
 use lib.Seq.{drop-cons, drop-at, length-take-le, take-take, take-append-le, getD-take}
+use Rattle.utf8.specs.Laws.{clash}
 use Rattle.json.specs.Tree.{Json}
 use Rattle.json.specs.Grammar.{At, Begins}
 use Rattle.json.specs.Machine.{Frame, Mode, Step, go, dead, deep, Outcome, bad, tooDeep, step, run, ending, finish}
@@ -87,8 +88,8 @@ begins {l} {l′} {x} {m} {ks} {n} r f u =
 
 -- a step that is alike to one that goes on
 goes-on : {l l′ : ℕ} {s : Step} {m : Mode} {ks : List Frame} → Like l l′ s (go m ks) → (s ≡ dead → ⊥) × (s ≡ deep → l < l′)
-goes-on same = ((λ e. let z : _≡_ {A = ℕ} 0 1 = cc in omega arith), (λ e. let z : _≡_ {A = ℕ} 0 1 = cc in absurd (omega arith)))
-goes-on (left o) = ((λ e. let z : _≡_ {A = ℕ} 0 1 = cc in omega arith), (λ e. o))
+goes-on same = ((λ e. clash cc), (λ e. clash cc))
+goes-on (left o) = ((λ e. clash cc), (λ e. o))
 
 -- if one byte more begins a text with at most l′ levels, it is not dead, and opens a level too many only where l is less
 onward : {l l′ : ℕ} {x : List ℕ} {m : Mode} {ks : List Frame} {n b : ℕ} → Reach l x m ks n → At x n b → Begins l′ (take (n + 1) x) → (step l x m ks n b ≡ dead → ⊥) × (step l x m ks n b ≡ deep → l < l′)

@@ -6,6 +6,7 @@ use mathlib.Core.Path.{_≡_, refl, sym, _∙_}
 use mathlib.Core.List.{List, []}
 use mathlib.Core.Logic.{_⊎_, inl, inr, _↔_}
 use lib.ListN.{length, take}
+use Rattle.utf8.specs.Laws.{clash}
 use Rattle.json.specs.Tree.{Json}
 use Rattle.json.specs.Machine.{Outcome, reads, bad, tooDeep, run, read}
 use Rattle.json.specs.Machine.Mode.{want}
@@ -49,8 +50,8 @@ pub stops-exactly : (x : List ℕ) (n : ℕ) → Stopped x n ↔ (((v : Json) �
 stops-exactly x n = ((λ s. ((λ v d. no s (read-text x v .1 d)), stops x n s)), (λ (f, s). by (read x) refl f s))
   where
     no : {v : Json} → Stopped x n → read x ≡ reads v → ⊥
-    no (inl e) q = let z : _≡_ {A = ℕ} 0 1 = cc in omega arith
-    no (inr e) q = let z : _≡_ {A = ℕ} 0 1 = cc in omega arith
+    no (inl e) q = clash cc
+    no (inr e) q = clash cc
 
     by : (o : Outcome) → read x ≡ o → ((v : Json) → Text 32 x v → ⊥) → reaches.Stops 32 x n → Stopped x n
     by (reads v) e f s = absurd (f v (read-text x v .0 e))

@@ -9,6 +9,7 @@ use lib.ListN.{length, getD}
 use lib.Seq.{slice-cons}
 use lib.Dec.{eqb}
 use borrow.Author.Tests.{ne-eqb, le-leb, lt-leb}
+use Rattle.utf8.specs.Laws.{clash}
 use Rattle.json.specs.Tree.{Json, Items, _▸_, _◂_, Members, member, with, Name, placeOf, endOf}
 use Rattle.json.specs.Tree as tree
 use Rattle.json.specs.Machine.{isBlank, isDigit}
@@ -119,12 +120,12 @@ module _ {x t t′ : List ℕ} (long : length t′ ≡ length t) where
     same-fields (field {v = v} q u us) s = field (same-quoted (λ k l h. s k l (omega arith)) q) (same-sub u (λ k l h. s k (omega arith) (omega arith))) (same-fields us (λ k l h. s k (omega arith) (omega arith)))
 
 -- a numeral's first byte
+pub other-byte : (b k : ℕ) → true ≡ isNumeric b → isNumeric k ≡ false → b ≡ k → ⊥
+other-byte b k h f e = let g : true ≡ isNumeric k = rw e at h in clash cc
+
 numeral-kind : (b : ℕ) → true ≡ isNumeric b → byteKind b ≡ aNumber
 unfolding byteKind isNumeric isDigit
-numeral-kind b h = rw (ne-eqb b 91 (other 91 refl), ne-eqb b 123 (other 123 refl), ne-eqb b 34 (other 34 refl), ne-eqb b 110 (other 110 refl), ne-eqb b 116 (other 116 refl), ne-eqb b 102 (other 102 refl))
-  where
-    other : (k : ℕ) → isNumeric k ≡ false → b ≡ k → ⊥
-    other k f e = let g : true ≡ isNumeric k = rw e at h in let z : _≡_ {A = ℕ} 0 1 = cc in omega arith
+numeral-kind b h = rw (ne-eqb b 91 (other-byte b 91 h refl), ne-eqb b 123 (other-byte b 123 h refl), ne-eqb b 34 (other-byte b 34 h refl), ne-eqb b 110 (other-byte b 110 h refl), ne-eqb b 116 (other-byte b 116 h refl), ne-eqb b 102 (other-byte b 102 h refl))
 
 -- what a node's words say of its value
 module _ {x t : List ℕ} where
@@ -207,20 +208,20 @@ pub record IsObject (v : Json) : Type 0 where
 
 pub is-array : (v : Json) → kindOf v ≡ anArray → IsArray v
 unfolding kindOf
-is-array (tree.null p e) h = absurd (let z : _≡_ {A = ℕ} 0 1 = cc in omega arith)
-is-array (tree.bool p e b) h = absurd (let z : _≡_ {A = ℕ} 0 1 = cc in omega arith)
-is-array (tree.num p e raw) h = absurd (let z : _≡_ {A = ℕ} 0 1 = cc in omega arith)
-is-array (tree.str p e raw) h = absurd (let z : _≡_ {A = ℕ} 0 1 = cc in omega arith)
+is-array (tree.null p e) h = clash cc
+is-array (tree.bool p e b) h = clash cc
+is-array (tree.num p e raw) h = clash cc
+is-array (tree.str p e raw) h = clash cc
 is-array (tree.arr p e vs) h = record { place = p; end = e; kids = vs; is = refl }
-is-array (tree.obj p e ms) h = absurd (let z : _≡_ {A = ℕ} 0 1 = cc in omega arith)
+is-array (tree.obj p e ms) h = clash cc
 
 pub is-object : (v : Json) → kindOf v ≡ anObject → IsObject v
 unfolding kindOf
-is-object (tree.null p e) h = absurd (let z : _≡_ {A = ℕ} 0 1 = cc in omega arith)
-is-object (tree.bool p e b) h = absurd (let z : _≡_ {A = ℕ} 0 1 = cc in omega arith)
-is-object (tree.num p e raw) h = absurd (let z : _≡_ {A = ℕ} 0 1 = cc in omega arith)
-is-object (tree.str p e raw) h = absurd (let z : _≡_ {A = ℕ} 0 1 = cc in omega arith)
-is-object (tree.arr p e vs) h = absurd (let z : _≡_ {A = ℕ} 0 1 = cc in omega arith)
+is-object (tree.null p e) h = clash cc
+is-object (tree.bool p e b) h = clash cc
+is-object (tree.num p e raw) h = clash cc
+is-object (tree.str p e raw) h = clash cc
+is-object (tree.arr p e vs) h = clash cc
 is-object (tree.obj p e ms) h = record { place = p; end = e; fields = ms; is = refl }
 
 -- Loops over elements. What a loop knows where it has come to the node k: the words from k up to n are those of some elements, of which P holds

@@ -9,6 +9,7 @@ use mathlib.Core.Option.{Option, some}
 use mathlib.Core.Option as option
 use lib.ListN.{length, drop}
 use borrow.Author.Tests.{lt-ltb, le-ltb}
+use Rattle.utf8.specs.Laws.{clash}
 use Rattle.json.specs.Tree.{Json}
 use Rattle.nodes.specs.Access.{members, Member, find}
 use Rattle.everywhere.specs.Everywhere.{rule5, rule6}
@@ -107,13 +108,13 @@ judged-none v {f} e h = rw (← e, le-ltb f none h) refl
 
 few-dropped : (n : ℕ) (ms : List Member) → drop n ms ≡ [] → length ms ≤ n
 few-dropped n [] e = omega arith
-few-dropped zero (m ∷ ms) e = absurd (let z : _≡_ {A = ℕ} 0 1 = cc in omega arith)
+few-dropped zero (m ∷ ms) e = clash cc
 few-dropped (suc n) (m ∷ ms) e = omega (arith, few-dropped n ms e)
 
 no-name : (ms : List Member) → nameFault ms ≡ [] → ms ≡ []
 unfolding nameFault
 no-name [] e = refl
-no-name (m ∷ ms) e = absurd (let z : _≡_ {A = ℕ} 0 1 = cc in omega arith)
+no-name (m ∷ ms) e = clash cc
 
 few-members : (n : ℕ) (o : Option Json) → on (cityObjects n) o ≡ [] → length (membersIn o) ≤ 1024
 unfolding on cityObjects all notTooMany membersIn

@@ -8,6 +8,7 @@ use mathlib.Core.List.{List}
 use mathlib.Core.Logic.{inl, inr}
 use lib.ListN.{length}
 use lib.Dec.{leb}
+use Rattle.utf8.specs.Laws.{clash}
 use Rattle.grammar.specs.Theorems.{stops}
 use Rattle.verdict.specs.Verdict.{Verdict, accepted, refused, verdict}
 use Rattle.verdict.specs.Exact.{Breaks, too-long, not-utf8, not-json, too-deep, in-tree, refused-least, accepted-clean, verdict-long}
@@ -98,7 +99,7 @@ unfolding answer fitted
 refused-small x room r p e = by (verdict x) refl e
   where
     if : (b : Bool) (size n : ℕ) → cond b (laid.laid size n) (laid.refused 18 0) ≡ laid.refused r p → p ≤ 65535
-    if true size n d = let z : _≡_ {A = ℕ} 0 1 = cc in absurd (omega arith)
+    if true size n d = clash cc
     if false size n d = let z : 0 ≡ p = cc in omega arith
 
     by : (v : Verdict) → verdict x ≡ v → fitted x room v ≡ laid.refused r p → p ≤ 65535

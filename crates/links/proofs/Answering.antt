@@ -10,6 +10,7 @@ use lib.ListN.{length, getD}
 use lib.Dec.{ltb}
 use borrow.Author.Tests.{not-true, not-false, lt-ltb, le-ltb}
 use Rattle.utf8.specs.Utf8.{same}
+use Rattle.utf8.specs.Laws.{clash}
 use Rattle.words.specs.Words.{is}
 use Rattle.grid.specs.Grid.{holds}
 use Rattle.json.specs.Tree.{Json}
@@ -77,7 +78,7 @@ among-all vs u = among-seen [] vs u ∙ or-false (among (idsAmong vs) u)
 no-object : (o : Option Json) → isSome o ≡ false → o ≡ none
 unfolding isSome
 no-object none e = refl
-no-object (some v) e = let z : _≡_ {A = ℕ} 0 1 = cc in absurd (omega arith)
+no-object (some v) e = clash cc
 
 open-by : (b : ℕ) (ms : List Member) (back : String) (id : List ℕ) (v : Json) (u : List ℕ) (answered : Bool) → isStringValue v ≡ true → textOf v ≡ u → answered ≡ among (idsIn back (firstNamed u ms)) id → least b (unless answered 17 v) ≡ least b (openAt ms back id false v)
 unfolding openAt

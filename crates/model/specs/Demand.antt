@@ -3,6 +3,7 @@ use mathlib.Core.Path.{_≡_, sym, ap, _∙_}
 use mathlib.Core.List.{List, [], _++_, append-nil}
 use mathlib.Core.Logic.{_≢_, _↔_}
 use Prim.Native.Nat.{ℕ}
+use Rattle.utf8.specs.Laws.{never}
 use Rattle.model.specs.Model.{Model, ModelOf, numberModel, layModel, sheetOf}
 use Rattle.model.specs.Good.{GoodModel}
 use Rattle.model.specs.Once.{sheet-unique}

@@ -9,6 +9,7 @@ use native.Mathlib.Omega.{arith}
 use lib.ListN.{length}
 use lib.Dec.{T, eqb}
 use lib.IntN.{ℤ}
+use Rattle.utf8.specs.Laws.{never}
 use Rattle.model.specs.Code.{le, signed, each, All, Holds, Until, Unique, le-unique, signed-unique, each-until, each-same, each-inj, le-full, signed-full}
 use Rattle.numerals.specs.Numerals.{Decimal}
 use Rattle.words.specs.Words.{depth, valuesDepth}

@@ -8,13 +8,14 @@ use lib.ListN.{length, getD}
 use lib.Seq.{slice}
 use lib.Dec.{eqb}
 use borrow.Author.Tests.{ne-eqb}
+use Rattle.utf8.specs.Laws.{never}
 use Rattle.strings.specs.Strings.{decode}
 use Rattle.strings.specs.Spans.{Span, decodeAt}
 use Rattle.json.specs.Machine.{isDigit}
 use Rattle.json.specs.Tree.{Json, Members, placeOf, endOf}
 use Rattle.json.specs.Tree as tree
 use Rattle.json.specs.Table.{Quoted, isNumeric, Sub, null, bool, num, str, arr, obj}
-use Rattle.json.specs.Laws.{words, Left, begin, MembersLeft, members-begin}
+use Rattle.json.specs.Laws.{other-byte, words, Left, begin, MembersLeft, members-begin}
 use Rattle.nodes.specs.Faults.{least}
 use Rattle.nodes.specs.Access.{isNullValue, isNumberValue, isStringValue, isArrayValue, isObjectValue, listed, elements, pairs, members, Member, textOf, numeralOf}
 
@@ -28,10 +29,7 @@ pub record Kinds (b : ℕ) (v : Json) : Type 0 where
 
 numeral-kinds : {p e : ℕ} {raw : List ℕ} (b : ℕ) → true ≡ isNumeric b → Kinds b (tree.num p e raw)
 unfolding isNumeric isDigit isNullValue isNumberValue isStringValue isArrayValue isObjectValue
-numeral-kinds b h = record { null = ne-eqb b 110 (other 110 refl); string = ne-eqb b 34 (other 34 refl); array = ne-eqb b 91 (other 91 refl); object = ne-eqb b 123 (other 123 refl); number = sym h }
-  where
-    other : (k : ℕ) → isNumeric k ≡ false → b ≡ k → ⊥
-    other k f e = let g : true ≡ isNumeric k = rw e at h in let z : _≡_ {A = ℕ} 0 1 = cc in omega arith
+numeral-kinds b h = record { null = ne-eqb b 110 (other-byte b 110 h refl); string = ne-eqb b 34 (other-byte b 34 h refl); array = ne-eqb b 91 (other-byte b 91 h refl); object = ne-eqb b 123 (other-byte b 123 h refl); number = sym h }
 
 pub kinds : {x t : List ℕ} {i : ℕ} {v : Json} → Sub x t i v → Kinds (getD x (getD t i 0) 0) v
 unfolding isNumeric isDigit isNullValue isNumberValue isStringValue isArrayValue isObjectValue
@@ -98,10 +96,6 @@ pub record NumeralAt (x t : List ℕ) (i : ℕ) (raw : List ℕ) : Type 0 where
   pub high : getD t (i + 1) 0 ≤ length x
   pub bytes : raw ≡ slice (getD t i 0) (getD t (i + 1) 0) x
 
--- one value is not of two kinds
-never : {A : Type 0} → false ≡ true → A
-never e = absurd (let z : _≡_ {A = ℕ} 0 1 = cc in omega arith)
-
 module _ {x t : List ℕ} where
   -- a name, or a string, by its three words
   pub quoted-at : {i p e : ℕ} {raw : List ℕ} → Quoted x t i p e raw → StringAt x t i raw
@@ -118,12 +112,12 @@ module _ {x t : List ℕ} where
   -- a string
   pub string-at : {i : ℕ} {v : Json} → Sub x t i v → isStringValue v ≡ true → StringAt x t i (rawOf v)
   unfolding isStringValue rawOf
-  string-at (null w) h = never h
-  string-at (bool w) h = never h
-  string-at (num w n r) h = never h
+  string-at (null w) h = absurd (never h refl)
+  string-at (bool w) h = absurd (never h refl)
+  string-at (num w n r) h = absurd (never h refl)
   string-at (str q) h = quoted-at q
-  string-at (arr w vs) h = never h
-  string-at (obj w ms) h = never h
+  string-at (arr w vs) h = absurd (never h refl)
+  string-at (obj w ms) h = absurd (never h refl)
 
   -- its decoded text
   pub text-at : {i : ℕ} {v : Json} → Sub x t i v → isStringValue v ≡ true → textOf v ≡ decodeAt x (getD t i 0 + 1) (getD t (i + 1) 0 - 1)
@@ -142,30 +136,30 @@ module _ {x t : List ℕ} where
   -- a numeral
   pub numeral-at : {i : ℕ} {v : Json} → Sub x t i v → isNumberValue v ≡ true → NumeralAt x t i (numeralOf v)
   unfolding isNumberValue numeralOf
-  numeral-at (null w) h = never h
-  numeral-at (bool w) h = never h
+  numeral-at (null w) h = absurd (never h refl)
+  numeral-at (bool w) h = absurd (never h refl)
   numeral-at (num w n r) h = record { low = omega (arith, w .start, w .end, w .some); high = omega (arith, w .end, w .inside); bytes = rw (w .start, w .end) r }
-  numeral-at (str q) h = never h
-  numeral-at (arr w vs) h = never h
-  numeral-at (obj w ms) h = never h
+  numeral-at (str q) h = absurd (never h refl)
+  numeral-at (arr w vs) h = absurd (never h refl)
+  numeral-at (obj w ms) h = absurd (never h refl)
 
   -- where a loop over the elements of an array begins, and one over the members of an object
   pub elements-begin : {i : ℕ} {v : Json} (P : List Json → Type 0) → Sub x t i v → isArrayValue v ≡ true → P (elements v) → Left x t (i + 3) (getD t (i + 2) 0) (λ vs. P (listed vs))
   unfolding isArrayValue elements
-  elements-begin P (null w) h p = never h
-  elements-begin P (bool w) h p = never h
-  elements-begin P (num w n r) h p = never h
-  elements-begin P (str q) h p = never h
+  elements-begin P (null w) h p = absurd (never h refl)
+  elements-begin P (bool w) h p = absurd (never h refl)
+  elements-begin P (num w n r) h p = absurd (never h refl)
+  elements-begin P (str q) h p = absurd (never h refl)
   elements-begin P (arr {p = q} {e = e} {vs = vs} w ss) h p = begin (record { place = q; end = e; kids = vs; stands = arr w ss }) p
-  elements-begin P (obj w ms) h p = never h
+  elements-begin P (obj w ms) h p = absurd (never h refl)
 
   pub object-begin : {i : ℕ} {v : Json} {P : Members → Type 0} → Sub x t i v → isObjectValue v ≡ true → P (fieldsOf v) → MembersLeft x t (i + 3) (getD t (i + 2) 0) P
   unfolding isObjectValue fieldsOf
-  object-begin (null w) h p = never h
-  object-begin (bool w) h p = never h
-  object-begin (num w n r) h p = never h
-  object-begin (str q) h p = never h
-  object-begin (arr w vs) h p = never h
+  object-begin (null w) h p = absurd (never h refl)
+  object-begin (bool w) h p = absurd (never h refl)
+  object-begin (num w n r) h p = absurd (never h refl)
+  object-begin (str q) h p = absurd (never h refl)
+  object-begin (arr w vs) h p = absurd (never h refl)
   object-begin (obj {p = q} {e = e} {ms = ms} w fs) h p = members-begin (record { place = q; end = e; fields = ms; stands = obj w fs }) p
 
   pub fields-begin : {i : ℕ} {v : Json} (P : List Member → Type 0) → Sub x t i v → isObjectValue v ≡ true → P (members v) → MembersLeft x t (i + 3) (getD t (i + 2) 0) (λ ms. P (pairs ms))
@@ -178,7 +172,7 @@ no-elements (tree.null p e) h = refl
 no-elements (tree.bool p e b) h = refl
 no-elements (tree.num p e raw) h = refl
 no-elements (tree.str p e raw) h = refl
-no-elements (tree.arr p e vs) h = never (sym h)
+no-elements (tree.arr p e vs) h = absurd (never (sym h) refl)
 no-elements (tree.obj p e ms) h = refl
 
 pub no-fields : (v : Json) → isObjectValue v ≡ false → fieldsOf v ≡ tree.empty
@@ -188,7 +182,7 @@ no-fields (tree.bool p e b) h = refl
 no-fields (tree.num p e raw) h = refl
 no-fields (tree.str p e raw) h = refl
 no-fields (tree.arr p e vs) h = refl
-no-fields (tree.obj p e ms) h = never (sym h)
+no-fields (tree.obj p e ms) h = absurd (never (sym h) refl)
 
 pub no-members : (v : Json) → isObjectValue v ≡ false → members v ≡ []
 unfolding pairs

@@ -14,12 +14,9 @@ use mir.Syntax.{w64}
 use mir.Val.{Fits}
 use borrow.Author.Tests.{ne-eqb, eq-eqb, lt-ltb, le-ltb}
 use Rattle.numerals.specs.Numerals.{isDigit, isPoint, isLetter, isInteger, integer, digits, natural, negative, signed, fits32}
-use Rattle.numerals.specs.Laws.{digit-low, digit-high}
+use Rattle.numerals.specs.Laws.{clash, digit-low, digit-high}
 use Rattle.numerals.specs.Reading.{allDigits, quickOf, isShort, Quick, Short}
 use Rattle.numerals.proofs.Bytes.{bytes, slice-next, slice-out, digits-more, digits-same}
-
-clash : false ≡ true → ⊥
-clash e = let z : _≡_ {A = ℕ} 0 1 = cc in omega arith
 
 -- a digit is no sign, no point and no letter
 module _ (b : ℕ) (e : true ≡ isDigit b) where

@@ -44,7 +44,7 @@ abbrev Small : List ℕ → Type 0
 Small [] = Unit {0}
 Small (d ∷ ds) = (d < 10) × Small ds
 
-clash : false ≡ true → ⊥
+pub clash : false ≡ true → ⊥
 clash e = let z : _≡_ {A = ℕ} 0 1 = cc in omega arith
 
 -- the bounds of a digit

@@ -1,12 +1,12 @@
 -- Members of a value at a node, and the records of a geometry. Assumes nothing.
 use Prim.Native.Nat.{ℕ, _≤_}
 use Prim.Native.String.{String}
-use native.Mathlib.Omega.{arith}
 use mathlib.Core.Path.{_≡_, refl, sym, ap, _∙_, subst}
 use mathlib.Core.Bool.{true}
 use mathlib.Core.List.{List, [], _++_, append-nil}
 use mathlib.Core.Option.{Option, none, some}
 use lib.ListN.{length}
+use Rattle.utf8.specs.Laws.{clash}
 use Rattle.strings.specs.Spans.{decodeAt}
 use Rattle.json.specs.Tree.{Json}
 use Rattle.json.specs.Table.{Sub}
@@ -42,7 +42,7 @@ the z = ap orNull z
 same-found : (x t : List ℕ) (a : Option Json) (v : Json) (f : Found) → Finds x t (some v) f → Finds x t a f → a ≡ some v
 unfolding Finds
 same-found x t a v (At j) (w, q, s) (u, z, y) = z ∙ ap some (unique y s) ∙ sym q
-same-found x t a v Nothing q z = absurd (let y : _≡_ {A = ℕ} 0 1 = cc in omega arith)
+same-found x t a v Nothing q z = clash cc
 
 module _ {x t : List ℕ} {i : ℕ} (name : String) {found : Found} (k : Seeks (λ v. find name v) x t i found) where
   -- the value that was found is the member
@@ -68,8 +68,7 @@ module _ {x t : List ℕ} {i : ℕ} (name : String) {found : Found} (k : Seeks (
       let d = h .node in
       let p = h .holds (d .value) (d .stands) in
       let z : _≡_ {A = Option Json} none (some (p .value)) = sym (member-none e (d .value) (d .stands)) ∙ p .found in
-      let y : _≡_ {A = ℕ} 0 1 = cc in
-      omega arith
+      clash cc
 
   -- a member that may be there
   pub perhaps-at : {P : Json → Type 0} {j : ℕ} → Holds (Perhaps P name) x t i → found ≡ At j → Holds P x t j

@@ -1,6 +1,5 @@
 -- What the proofs of the root and of city objects use. Assumes nothing.
 use Prim.Native.Nat.{ℕ, _+_, _-_}
-use native.Mathlib.Omega.{arith}
 use mathlib.Core.Path.{_≡_, refl, sym, ap, _∙_, subst}
 use mathlib.Core.Bool.{Bool, true, false, not, _||_, _&&_}
 use mathlib.Core.List.{List, [], _∷_, _++_, append-assoc, append-nil}
@@ -9,7 +8,7 @@ use Prim.Native.String.{String}
 use lib.ListN.{getD}
 use lib.Dec.{eqb}
 use Rattle.utf8.specs.Ascii.{ascii}
-use Rattle.utf8.specs.Laws.{both-left, both-right, same-equal}
+use Rattle.utf8.specs.Laws.{clash, both-left, both-right, same-equal}
 use borrow.Author.Tests.{not-true, not-false, eq-eqb, ne-eqb}
 use borrow.Author.Needs.{needs}
 use Rattle.utf8.specs.Utf8.{same}
@@ -118,7 +117,7 @@ noPlus (w ∷ ws) = not (isAdded (ascii w)) && noPlus ws
 
 word-no-plus : (ws : List String) (u : List ℕ) → noPlus ws ≡ true → isOne ws u ≡ true → isAdded u ≡ false
 unfolding isOne noPlus
-word-no-plus [] u n e = absurd (let z : _≡_ {A = ℕ} 0 1 = cc in omega arith)
+word-no-plus [] u n e = clash cc
 word-no-plus (w ∷ ws) u n e = of (same (ascii w) u) refl (word-no-plus ws u (both-right (not (isAdded (ascii w))) (noPlus ws) n)) e
   where
     of : (b : Bool) → same (ascii w) u ≡ b → (isOne ws u ≡ true → isAdded u ≡ false) → (b || isOne ws u) ≡ true → isAdded u ≡ false

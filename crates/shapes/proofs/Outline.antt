@@ -11,6 +11,7 @@ use lib.IntN.{pos}
 use mir.Syntax.{w64}
 use mir.Val.{Fits}
 use borrow.Author.Tests.{not-true, not-false, ltb-true}
+use Rattle.utf8.specs.Laws.{never}
 use Rattle.numerals.specs.Numerals.{isInteger, integer, isBelow}
 use Rattle.numerals.specs.Reading.{Quick}
 use Rattle.json.specs.Tree.{Json}
@@ -24,9 +25,6 @@ use Rattle.shapes.specs.Shapes.{isIntegerValue, shaped, near}
 use Rattle.shapes.specs.Says.{Clears}
 use Rattle.shapes.specs.Laws.{least-none, gives-then, each-both, pass-none, kind-yes}
 use Rattle.shapes.proofs.Parts.{shaped-suc, near-suc, shaped-no, near-deep}
-
-pub clash : false ≡ true → ⊥
-clash e = let z : _≡_ {A = ℕ} 0 1 = cc in omega arith
 
 -- the two rules at the last level
 shaped-last : (v : Json) → shaped 0 v ≡ unless (isIntegerValue v) 12 v
@@ -59,7 +57,7 @@ below-at count n e = e
 module _ {x t : List ℕ} {i : ℕ} where
   -- a test that told nothing, and one that told that the check finds no fault
   pub clears-none : (c : Check) → Clears c x t i false
-  clears-none c = record { none = λ e. absurd (clash e) }
+  clears-none c = record { none = λ e. absurd (never e refl) }
 
   pub clears-best : (best : ℕ) (c : Check) {r : Bool} → Clears c x t i r → r ≡ true → Gives (λ v. least best (c v)) x t i best
   clears-best best c k e = record { is = λ v s. least-none (k .none e v s) }

@@ -9,6 +9,7 @@ use lib.Seq.{slice}
 use mir.Syntax.{w64}
 use mir.Val.{Fits}
 use borrow.Author.Tests.{not-false}
+use Rattle.utf8.specs.Laws.{never}
 use Rattle.numerals.specs.Numerals.{isInteger, integer, fits32}
 use Rattle.numerals.specs.Reading.{Short}
 use Rattle.json.specs.Tree.{Json}
@@ -22,7 +23,7 @@ use Rattle.shapes.specs.Checks.{unless, forEach, each, numeral}
 use Rattle.shapes.specs.Shapes.{isIntegerValue, allIntegers, isTriple, coordinate, vertex}
 use Rattle.shapes.specs.Says.{Clears, IsSmall}
 use Rattle.shapes.specs.Laws.{integer-number}
-use Rattle.shapes.proofs.Outline.{clash, integer-of}
+use Rattle.shapes.proofs.Outline.{integer-of}
 
 coordinate-at : (v : Json) → coordinate v ≡ unless (not (isNumberValue v) || fits32 (integer (numeralOf v))) 13 v
 unfolding coordinate numeral
@@ -39,12 +40,12 @@ number-size (tree.null p e) h = refl
 number-size (tree.bool p e b) h = refl
 number-size (tree.num p e raw) h = refl
 number-size (tree.str p e raw) h = refl
-number-size (tree.arr p e vs) h = absurd (clash h)
-number-size (tree.obj p e ms) h = absurd (clash h)
+number-size (tree.arr p e vs) h = absurd (never h refl)
+number-size (tree.obj p e ms) h = absurd (never h refl)
 
 module _ {x t : List ℕ} {i : ℕ} where
   pub small-none : IsSmall x t i false
-  small-none = record { whole = λ e. absurd (clash e); fits = λ e. absurd (clash e) }
+  small-none = record { whole = λ e. absurd (never e refl); fits = λ e. absurd (never e refl) }
 
   pub small-is : {b r : Bool} {p e : ℕ} → Gives isNumberValue x t i b → not b ≡ false → p ≡ getD t i 0 → e ≡ getD t (i + 1) 0 → Short (slice p e x) r → IsSmall x t i r
   small-is {b} {r} {p} {e} g h f o k =

@@ -9,6 +9,7 @@ use lib.Seq.{take-at}
 use lib.Dec.{leb, ltb}
 use borrow.Author.Tests.{leb-true, leb-false, lt-leb, ltb-true}
 use Rattle.utf8.specs.Utf8.{wholeLength}
+use Rattle.utf8.specs.Laws.{clash}
 use Rattle.json.specs.Tree.{Json}
 use Rattle.json.specs.Machine.{Outcome, reads, bad, tooDeep, read}
 use Rattle.nodes.specs.Faults.{ruleOf, placeIn, least, none}
@@ -72,7 +73,7 @@ of-laid x r l n e = by (verdict x) refl e
   where
     by : (o : Verdict) → verdict x ≡ o → fitted x r o ≡ laid l n → Laid x r l n
     by (judge.accepted k) q d = let (t, z, w) = laid-if _ _ _ _ _ _ d in record { accepted = q ∙ ap accepted w; size = sym z; fits = omega (arith, leb-true _ r t) }
-    by (judge.refused s p) q d = let z : _≡_ {A = ℕ} 0 1 = cc in absurd (omega arith)
+    by (judge.refused s p) q d = clash cc
 
 -- the room then holds the sheet, and zeros after it
 pub holds-sheet : (x : List ℕ) (r l n : ℕ) → answer x r ≡ laid l n → roomAfter x r ≡ sheetOfText x ++ replicate (r - l) 0

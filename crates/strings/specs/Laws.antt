@@ -12,7 +12,7 @@ use lib.Dec.{eqb, leb, ltb}
 use lib.Seq.{slice, slice-cons, length-slice, length-take-le}
 use borrow.Author.Tests.{ltb-true, not-true, ne-eqb, eqb-false}
 use Rattle.utf8.specs.Utf8.{encode, same}
-use Rattle.utf8.specs.Laws.{both-left, both-right, neither}
+use Rattle.utf8.specs.Laws.{clash, both-left, both-right, neither}
 use Rattle.strings.specs.Spans.{Span, decodeAt, unpairedAt, pending, ahead, away, Hands, Steps, firstOf, hasByte, beginApart}
 use Rattle.strings.specs.declared.Cursor.{Cursor}
 use Rattle.strings.specs.declared.Step.{Step}
@@ -299,7 +299,7 @@ first-least n raw p ps f q m =
 
 first-within : (n e p : ℕ) (ps : List ℕ) → Rising n e ps → firstOf ps ≡ At p → (n ≤ p) × (p < e)
 unfolding Rising firstOf
-first-within n e p [] r f = let z : _≡_ {A = ℕ} 0 1 = cc in absurd (omega arith)
+first-within n e p [] r f = clash cc
 first-within n e p (q ∷ ps) r f = let z : p ≡ q = cc in (omega (arith, r .0), omega (arith, r .1))
 
 -- the place that is found lies in the string

@@ -9,7 +9,7 @@ use lib.Dec.{leb}
 use borrow.Author.Tests.{leb-true, leb-false, le-leb, lt-leb, not-true, not-false}
 use Rattle.utf8.specs.Utf8.{isCharacter, encode, number, written}
 use Rattle.utf8.specs.Says.{isBetween}
-use Rattle.utf8.specs.Laws.{below-or-not, both-left, both-right, never, unless, Form, form, top, encode-one, encode-two, encode-three, encode-four, written-encode, written-character, written-bytes}
+use Rattle.utf8.specs.Laws.{clash, below-or-not, both-left, both-right, never, unless, Form, form, top, encode-one, encode-two, encode-three, encode-four, written-encode, written-character, written-bytes}
 use Rattle.utf8.specs.Laws.Form.{one, two, three, four}
 
 -- two Booleans that are true together are equal
@@ -70,21 +70,21 @@ record Four (a b c d n : ℕ) : Type 0 where
   fourth : d ≡ 128 + n % 64
 
 two-of : (a b n : ℕ) → Form n → encode n ≡ a ∷ b ∷ [] → Two a b n
-two-of a b n (one l e) w = let z : _≡_ {A = ℕ} 0 1 = cc in absurd (omega arith)
+two-of a b n (one l e) w = clash cc
 two-of a b n (two l h e) w = record { low = l; high = h; first = cc; second = cc }
-two-of a b n (three l h e) w = let z : _≡_ {A = ℕ} 0 1 = cc in absurd (omega arith)
-two-of a b n (four l e) w = let z : _≡_ {A = ℕ} 0 1 = cc in absurd (omega arith)
+two-of a b n (three l h e) w = clash cc
+two-of a b n (four l e) w = clash cc
 
 three-of : (a b c n : ℕ) → Form n → encode n ≡ a ∷ b ∷ c ∷ [] → Three a b c n
-three-of a b c n (one l e) w = let z : _≡_ {A = ℕ} 0 1 = cc in absurd (omega arith)
-three-of a b c n (two l h e) w = let z : _≡_ {A = ℕ} 0 1 = cc in absurd (omega arith)
+three-of a b c n (one l e) w = clash cc
+three-of a b c n (two l h e) w = clash cc
 three-of a b c n (three l h e) w = record { low = l; high = h; first = cc; second = cc; third = cc }
-three-of a b c n (four l e) w = let z : _≡_ {A = ℕ} 0 1 = cc in absurd (omega arith)
+three-of a b c n (four l e) w = clash cc
 
 four-of : (a b c d n : ℕ) → Form n → encode n ≡ a ∷ b ∷ c ∷ d ∷ [] → Four a b c d n
-four-of a b c d n (one l e) w = let z : _≡_ {A = ℕ} 0 1 = cc in absurd (omega arith)
-four-of a b c d n (two l h e) w = let z : _≡_ {A = ℕ} 0 1 = cc in absurd (omega arith)
-four-of a b c d n (three l h e) w = let z : _≡_ {A = ℕ} 0 1 = cc in absurd (omega arith)
+four-of a b c d n (one l e) w = clash cc
+four-of a b c d n (two l h e) w = clash cc
+four-of a b c d n (three l h e) w = clash cc
 four-of a b c d n (four l e) w = record { low = l; first = cc; second = cc; third = cc; fourth = cc }
 
 of-two : {a b n : ℕ} → Two a b n → encode n ≡ a ∷ b ∷ []

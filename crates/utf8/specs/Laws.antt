@@ -12,6 +12,10 @@ use borrow.Author.Count.{below-more}
 use borrow.Author.Tests.{ltb-true, ltb-false, leb-true, eqb-true, eq-eqb, lt-ltb, le-ltb}
 use Rattle.utf8.specs.Utf8.{isCharacter, tail, encode, number, same, written, size, wholeFrom, wholeLength}
 
+-- two numbers that differ are not equal; `clash cc` is what follows where two constructors are said to be
+pub clash : {A : Type 0} → _≡_ {A = ℕ} 0 1 → A
+clash z = absurd (omega arith)
+
 -- two Booleans, both true
 pub both-left : (a b : Bool) → (a && b) ≡ true → a ≡ true
 both-left true b e = refl
@@ -19,10 +23,10 @@ both-left false b e = e
 
 pub both-right : (a b : Bool) → (a && b) ≡ true → b ≡ true
 both-right true b e = e
-both-right false b e = let z : _≡_ {A = ℕ} 0 1 = cc in absurd (omega arith)
+both-right false b e = clash cc
 
 pub never : {b : Bool} → b ≡ true → b ≡ false → ⊥
-never {b} e f = let z : _≡_ {A = ℕ} 0 1 = cc in omega arith
+never {b} e f = clash cc
 
 -- two Booleans, neither true
 pub neither : (a b : Bool) → (a || b) ≡ false → (a ≡ false) × (b ≡ false)
@@ -37,8 +41,8 @@ unless false n = refl
 pub same-equal : (x y : List ℕ) → same x y ≡ true → x ≡ y
 unfolding same
 same-equal [] [] e = refl
-same-equal [] (b ∷ y) e = let z : _≡_ {A = ℕ} 0 1 = cc in absurd (omega arith)
-same-equal (a ∷ x) [] e = let z : _≡_ {A = ℕ} 0 1 = cc in absurd (omega arith)
+same-equal [] (b ∷ y) e = clash cc
+same-equal (a ∷ x) [] e = clash cc
 same-equal (a ∷ x) (b ∷ y) e = cc (eqb-true a b (both-left (eqb a b) (same x y) e), same-equal x y (both-right (eqb a b) (same x y) e))
 
 pub same-refl : (x : List ℕ) → same x x ≡ true

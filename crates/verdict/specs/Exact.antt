@@ -11,6 +11,7 @@ use lib.Dec.{ltb}
 use borrow.Author.Tests.{lt-ltb, le-ltb}
 use Rattle.utf8.specs.Utf8.{wholeLength}
 use Rattle.utf8.specs.Meaning.{within}
+use Rattle.utf8.specs.Laws.{clash}
 use Rattle.json.specs.Tree.{Json}
 use Rattle.json.specs.Machine.{Outcome, reads, bad, tooDeep, read}
 use Rattle.grammar.specs.Theorems.{read-text, ordered}
@@ -114,7 +115,7 @@ module _ (x : List ℕ) (h : length x ≤ 65535) (w : length x ≤ wholeLength x
   four-first : (p : ℕ) → read x ≡ tooDeep p → (s q : ℕ) → Breaks x s q → NoLater 4 p s q
   four-first p r s q (too-long k) = absurd (omega arith)
   four-first p r s q (not-utf8 k) = absurd (omega arith)
-  four-first p r s q (not-json e) = let z : _≡_ {A = ℕ} 0 1 = cc in absurd (omega arith)
+  four-first p r s q (not-json e) = clash cc
   four-first p r s q (too-deep e) = let z : p ≡ q = cc in inr (refl, omega arith)
   four-first p r s q (in-tree v l e k m) = inl (omega (arith, five x v s q l e k m))
 
@@ -122,8 +123,8 @@ module _ (x : List ℕ) (h : length x ≤ 65535) (w : length x ≤ wholeLength x
   unfolding ruleOf placeIn fault
   tree-first v r s q (too-long k) = absurd (omega arith)
   tree-first v r s q (not-utf8 k) = absurd (omega arith)
-  tree-first v r s q (not-json e) = let z : _≡_ {A = ℕ} 0 1 = cc in absurd (omega arith)
-  tree-first v r s q (too-deep e) = let z : _≡_ {A = ℕ} 0 1 = cc in absurd (omega arith)
+  tree-first v r s q (not-json e) = clash cc
+  tree-first v r s q (too-deep e) = clash cc
   tree-first v r s q (in-tree u l e k m) =
       let z : u ≡ v = cc in
       let f = least none (faults v) in
@@ -210,8 +211,8 @@ accepted-clean x n e = of (rw e at (cases x))
 clean-none : (x : List ℕ) (n : ℕ) → Clean x n → (r p : ℕ) → Breaks x r p → ⊥
 clean-none x n c r p (too-long k) = omega (arith, c .short)
 clean-none x n c r p (not-utf8 k) = omega (arith, c .whole)
-clean-none x n c r p (not-json e) = let q = c .reads in let z : _≡_ {A = ℕ} 0 1 = cc in omega arith
-clean-none x n c r p (too-deep e) = let q = c .reads in let z : _≡_ {A = ℕ} 0 1 = cc in omega arith
+clean-none x n c r p (not-json e) = let q = c .reads in clash cc
+clean-none x n c r p (too-deep e) = let q = c .reads in clash cc
 clean-none x n c r p (in-tree v l e k m) = let q = c .reads in let z : v ≡ c .value = cc in List·Memᴰ·not-nil (rw (z, c .clean) at m)
 
 -- a text is accepted exactly if it breaks no rule

@@ -10,6 +10,7 @@ use mir.Syntax.{w64}
 use mir.Val.{Fits, SFits, toZ, ofZ}
 use mir.Facts.{toZ-ofZ}
 use borrow.Author.Tests.{leb-false, le-ltb}
+use Rattle.utf8.specs.Laws.{clash}
 use Rattle.writer.specs.Writes.{twos}
 
 -- what is read back
@@ -23,7 +24,7 @@ flipped z = negsuc 0 -ℤ z
 plain-is : (z : ℤ) → leZ (pos 0) z ≡ true → (z ≡ pos (mag z)) × (mag z ≡ twos z)
 unfolding twos
 plain-is (pos n) e = (refl, refl)
-plain-is (negsuc n) e = absurd (let z : _≡_ {A = ℕ} 0 1 = cc in omega arith)
+plain-is (negsuc n) e = clash cc
 
 flipped-is : (z : ℤ) → leZ (pos 0) z ≡ false → (flipped z ≡ pos (mag z)) × (2 ^ 64 - 1 - mag z ≡ twos z)
 unfolding twos
