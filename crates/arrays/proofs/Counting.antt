@@ -1,7 +1,7 @@
 -- How many elements of an array a loop has passed. Assumes nothing.
 use Prim.Native.Nat.{ℕ, _+_, _-_, _*_, _^_, _≤_, _<_}
 use native.Mathlib.Omega.{arith}
-use mathlib.Core.Path.{_≡_, refl, sym, ap, _∙_}
+use mathlib.Core.Path.{_≡_, sym, _∙_}
 use mathlib.Core.Bool.{Bool, false, not}
 use mathlib.Core.List.{List}
 use lib.ListN.{length, getD}
@@ -10,7 +10,7 @@ use mir.Val.{Fits}
 use borrow.Author.Tests.{not-false}
 use Rattle.json.specs.Tree.{Json}
 use Rattle.json.specs.Table.{Sub}
-use Rattle.json.specs.Laws.{Left, Past, past, over, ended}
+use Rattle.json.specs.Laws.{Left, past, over, ended}
 use Rattle.nodes.specs.Access.{isArrayValue, listed, elements}
 use Rattle.nodes.specs.Says.{Node, Gives}
 use Rattle.nodes.specs.Laws.{elements-begin}

@@ -1,6 +1,6 @@
 -- What the writers ask of the numbers of a text; those of an accepted text are so (rules 12 and 13). Assumes nothing: these are definitions.
 use mathlib.Core.Path.{_≡_}
-use mathlib.Core.Bool.{Bool, true, false}
+use mathlib.Core.Bool.{true, false}
 use Prim.Native.Nat.{ℕ, zero, suc, _^_}
 use lib.ListN.{length}
 use Rattle.numerals.specs.Numerals.{pairOf, integer, fits32, isBelow}

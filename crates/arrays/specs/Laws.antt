@@ -1,23 +1,22 @@
 -- Laws of writers over a node table: one after the other, and a loop over the elements of an array. Assumes nothing.
-use Prim.Native.Nat.{ℕ, zero, suc, _+_, _-_, _≤_, _<_}
+use Prim.Native.Nat.{ℕ, _+_, _-_, _≤_, _<_}
 use native.Mathlib.Omega.{arith}
 use mathlib.Core.Path.{_≡_, refl, sym, ap, _∙_, subst}
 use mathlib.Core.Bool.{Bool, true, false, not}
-use mathlib.Core.List.{List, [], _∷_, _++_, map, append-assoc, append-nil}
+use mathlib.Core.List.{List, [], _++_, append-assoc, append-nil}
 use mathlib.Core.Option.{Option, some}
 use mathlib.Core.Option as option
 use lib.ListN.{length, getD}
 use borrow.Author.Tests.{not-true, not-false}
-use Rattle.json.specs.Tree.{Json, Items, placeOf, endOf}
-use Rattle.json.specs.Table.{size, Sub}
+use Rattle.json.specs.Tree.{Json}
+use Rattle.json.specs.Table.{Sub}
 use Rattle.json.specs.Laws.{Left, Past, past, over, ended}
 use Rattle.nodes.specs.Access.{isArrayValue, listed, elements}
-use Rattle.nodes.specs.Says.{Node, Sought, Finds, Gives, GivesFound}
+use Rattle.nodes.specs.Says.{Node, Finds, Gives}
 use Rattle.nodes.specs.Laws.{elements-begin, no-elements}
 use Rattle.nodes.specs.declared.Found.{Found}
 use Rattle.nodes.specs.declared.Found.the-variants.{At, Nothing}
 use Rattle.model.specs.Code.{each, All}
-use Rattle.model.specs.Read.{orNull}
 use Rattle.writer.specs.Writes.{Writes}
 use Rattle.writer.specs.Laws.{nothing, then}
 use Rattle.arrays.specs.Fits.{Elements}

@@ -1,16 +1,14 @@
 -- One value stands at a node of a table: the table tells the tree. Assumes nothing.
-use Prim.Native.Nat.{ℕ, _+_, _≤_}
+use Prim.Native.Nat.{ℕ}
 use native.Mathlib.Omega.{arith}
 use mathlib.Core.Path.{_≡_, refl, sym, ap, _∙_}
 use mathlib.Core.Bool.{Bool, true, false}
 use mathlib.Core.List.{List}
-use lib.ListN.{length, getD}
-use lib.Seq.{slice}
+use lib.ListN.{getD}
 use Rattle.utf8.specs.Laws.{clash}
-use Rattle.json.specs.Tree.{Json, Items, _▸_, Members, member, Name, placeOf, endOf}
-use Rattle.json.specs.Tree as tree
-use Rattle.json.specs.Table.{size, sizes, widths, Words, Quoted, lead, Sub, null, bool, num, str, arr, obj, Subs, nil, cons, Fields, last, field}
-use Rattle.json.specs.Laws.{Kind, kindOf, kind-of, words, size-pos}
+use Rattle.json.specs.Tree.{Json, Items, Members, Name}
+use Rattle.json.specs.Table.{size, sizes, widths, Words, lead, Sub, null, bool, num, str, arr, obj, Subs, nil, cons, Fields, last, field}
+use Rattle.json.specs.Laws.{kindOf, kind-of, words, size-pos}
 
 same-lead : (b c : Bool) → lead b ≡ lead c → b ≡ c
 same-lead true true h = refl

@@ -1,6 +1,6 @@
 -- Rules 5 and 6 of document 01, which hold in every part of a text: all places at which a tree breaks them. Assumes nothing: these are definitions.
 use Prim.Native.Nat.{ℕ, _+_}
-use mathlib.Core.Bool.{Bool, true, false, cond, _||_}
+use mathlib.Core.Bool.{Bool, false, cond, _||_}
 use mathlib.Core.List.{List, [], _∷_, _++_}
 use Rattle.utf8.specs.Utf8.{same}
 use Rattle.strings.specs.Strings.{decode, unpairedFrom}

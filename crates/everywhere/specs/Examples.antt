@@ -1,7 +1,7 @@
 -- Sample readings of document 01 that rules 5 and 6 decide, by computation: the places in the tree of the text. Assumes nothing.
 use Prim.Native.Nat.{ℕ}
 use mathlib.Core.Path.{_≡_, refl}
-use mathlib.Core.List.{List, [], _∷_, _++_}
+use mathlib.Core.List.{List, [], _∷_}
 use Rattle.utf8.specs.Ascii.{ascii}
 use Rattle.json.specs.Tree.{Json, _◂_, with}
 use Rattle.json.specs.Machine.{Outcome, reads, bad, tooDeep, read, step, wantStep, gotStep, nextStep, nameStep, mantStep, noughtStep, isBlank, isDigit, isHex, isEscape}

@@ -1,20 +1,16 @@
 -- What `search` is handed to close what the functions leave. Assumes nothing.
 use Prim.Native.Nat.{ℕ, _+_, _-_, _<_}
 use native.Mathlib.Omega.{arith}
-use mathlib.Core.Path.{_≡_, refl, sym, _∙_}
+use mathlib.Core.Path.{_≡_, refl}
 use mathlib.Core.Bool.{Bool, true, false, not}
 use mathlib.Core.List.{List, [], _∷_}
-use mathlib.Core.Option.{Option, none, some}
-use Prim.Native.String.{String}
 use lib.ListN.{length, getD}
 use borrow.Author.Needs.{needs}
-use Rattle.utf8.specs.Ascii.{ascii}
 use Rattle.utf8.specs.Utf8.{same}
 use Rattle.strings.specs.Spans.{decodeAt}
 use Rattle.words.specs.Words.{codeOf, objectWords, geometryWords}
-use Rattle.json.specs.Tree.{Json}
 use Rattle.nodes.specs.Access.{isStringValue, textOf, elements}
-use Rattle.nodes.specs.Says.{Node, Sought, Gives, GivesFound}
+use Rattle.nodes.specs.Says.{Gives, GivesFound}
 use Rattle.nodes.specs.declared.Found.{Found}
 use Rattle.nodes.specs.declared.Found.the-variants.{At, Nothing}
 use Rattle.fields.specs.Fields.{textIn, countIn}

@@ -7,7 +7,7 @@ use Prim.Native.Nat.{ℕ, _+_, _<_, min}
 use Prim.Native.String.{String}
 use lib.ListN.{length, getD}
 use Rattle.words.specs.Words.{codeOf}
-use Rattle.json.specs.Tree.{Json, Name}
+use Rattle.json.specs.Tree.{Json}
 use Rattle.json.specs.Table.{Quoted, Sub}
 use Rattle.nodes.specs.Access.{isStringValue, Member}
 use Rattle.nodes.specs.Says.{Node, Finds, Sought}

@@ -1,11 +1,11 @@
 -- Sample readings of document 01 that rules 3 and 4 decide, by computation. Assumes nothing.
 use Prim.Native.Nat.{ℕ}
 use mathlib.Core.Path.{_≡_, refl}
-use mathlib.Core.List.{List, [], _∷_, _++_}
+use mathlib.Core.List.{[]}
 use lib.ListN.{replicate}
 use Rattle.utf8.specs.Ascii.{ascii}
-use Rattle.json.specs.Tree.{Json, str, num, arr, obj, Items, none, _▸_, _◂_, Members, empty, member, with}
-use Rattle.json.specs.Machine.{Outcome, reads, bad, tooDeep, read, run, step, wantStep, gotStep, nextStep, nameStep, mantStep, noughtStep, isBlank, isDigit, isHex, isEscape}
+use Rattle.json.specs.Tree.{str, num, arr, obj, none, _▸_, _◂_, empty, member, with}
+use Rattle.json.specs.Machine.{reads, bad, tooDeep, read, step, wantStep, gotStep, nextStep, nameStep, mantStep, noughtStep, isBlank, isDigit, isHex, isEscape}
 
 empty-text : read [] ≡ bad 0
 unfolding read

@@ -1,27 +1,25 @@
 -- Rule 17 of the values of a list, one after the other, where the rows of a set have what all objects list on the other side. Assumes nothing.
-use Prim.Native.Nat.{ℕ, _+_, _-_, _*_, _≤_, _<_}
+use Prim.Native.Nat.{ℕ, _+_, _-_, _≤_, _<_}
 use Prim.Native.String.{String}
 use native.Mathlib.Omega.{arith}
-use mathlib.Core.Path.{_≡_, refl, sym, ap, _∙_, subst}
+use mathlib.Core.Path.{_≡_, refl, sym, ap, _∙_}
 use mathlib.Core.Bool.{Bool, true, false, cond, not, _||_, _&&_, or-false, or-true}
 use mathlib.Core.List.{List, [], _∷_, _++_}
 use mathlib.Core.Option.{Option, none, some}
-use lib.ListN.{length, getD}
-use lib.Dec.{ltb}
-use borrow.Author.Tests.{not-true, not-false, lt-ltb, le-ltb}
+use lib.ListN.{getD}
+use borrow.Author.Tests.{not-true, le-ltb}
 use Rattle.utf8.specs.Utf8.{same}
 use Rattle.utf8.specs.Laws.{clash}
 use Rattle.words.specs.Words.{is}
 use Rattle.grid.specs.Grid.{holds}
 use Rattle.json.specs.Tree.{Json}
-use Rattle.json.specs.Table.{Sub}
 use Rattle.model.specs.Model.{numberOf}
-use Rattle.nodes.specs.Access.{isStringValue, isArrayValue, textOf, elements, Member, firstNamed}
+use Rattle.nodes.specs.Access.{isStringValue, isArrayValue, textOf, Member, firstNamed}
 use Rattle.everywhere.specs.Everywhere.{among}
 use Rattle.nodes.specs.Faults.{least}
 use Rattle.nodes.specs.Laws.{no-elements, least-++}
 use Rattle.everywhere.specs.Parts.{textAt}
-use Rattle.nodes.specs.Says.{Node, Gives, GivesFound}
+use Rattle.nodes.specs.Says.{Node, Gives}
 use Rattle.nodes.specs.declared.Found.{Found}
 use Rattle.nodes.specs.declared.Found.the-variants.{At, Nothing}
 use Rattle.shapes.specs.Checks.{unless, isSome}
@@ -31,8 +29,8 @@ use Rattle.ids.specs.Says.{Offsets, Numbers, namesOf}
 use Rattle.ids.proofs.Rules.{nobody}
 use Rattle.ids.proofs.Chains.{names-all}
 use Rattle.links.specs.Links.{elementsIn, listedIn, idsAmong, idsIn}
-use Rattle.links.specs.Passes.{openAt, openIn, marks}
-use Rattle.links.specs.Says.{seen, Row, RowsTo, OpenGives, OpensGive, ChildrenGive}
+use Rattle.links.specs.Passes.{openAt, openIn}
+use Rattle.links.specs.Says.{seen, RowsTo, OpenGives, OpensGive, ChildrenGive}
 use Rattle.links.proofs.Marks.{among-marks, named-number}
 use Rattle.links.proofs.Marking.{named, string-at-node}
 use Rattle.links.proofs.Split.{excused-none}

@@ -22,7 +22,7 @@ use Rattle.nodes.specs.Access.{nameOf, elements, Member, find}
 use Rattle.nodes.specs.Faults.{least}
 use Rattle.nodes.specs.Laws.{least-++}
 use Rattle.everywhere.specs.Parts.{textAt}
-use Rattle.nodes.specs.Says.{Node, Seeks, Gives, GivesFound}
+use Rattle.nodes.specs.Says.{Seeks, Gives, GivesFound}
 use Rattle.nodes.specs.declared.Found.{Found}
 use Rattle.shapes.specs.Checks.{unless}
 use Rattle.shapes.specs.Laws.{unless-true}
@@ -31,7 +31,7 @@ use Rattle.fields.specs.declared.Index.{Index}
 use Rattle.ids.specs.Says.{Offsets, Objects, namesOf}
 use Rattle.ids.proofs.Rules.{nobody, name-text}
 use Rattle.ids.proofs.Chains.{names-all, name-is}
-use Rattle.links.specs.Links.{elementsIn, listedIn, isEmpty, hasParent, linksOfEach, linkFaults}
+use Rattle.links.specs.Links.{elementsIn, listedIn, isEmpty, hasParent, linkFaults}
 use Rattle.links.specs.Passes.{absent, openIn, absentOf, openOf, absentOfEach, openOfEach, marks}
 use Rattle.links.specs.Says.{Numbered, Alone, seen, Row, Beside, MarksGive, RowsTo, ObjectMarks, AllMarks, Filled, OpensGive, ChildrenGive, ObjectOpens, AllOpens, Empty, AllGive, Ready, LinksGive}
 use Rattle.links.proofs.Split.{split-objects}

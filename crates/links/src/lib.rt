@@ -5,7 +5,7 @@ use fields::Index;
 use nodes::Found;
 ghost use Prim.Native.Nat.{ℕ, _+_, _*_, _<_, _≤_};
 ghost use mathlib.Core.Path.{_≡_};
-ghost use lib.ListN.{length, getD};
+ghost use lib.ListN.{length};
 ghost use mathlib.Core.Bool.{false};
 ghost use Rattle.words.specs.Words.{objectWords, codeOf, is, isSecondLevel};
 ghost use Rattle.nodes.specs.Access as access;

@@ -1,14 +1,14 @@
 -- What the functions of the crate leave: bytes copied, a number's digits, a line. Assumes nothing.
 use mathlib.Core.Path.{_≡_, refl, sym, ap, _∙_}
 use mathlib.Core.Bool.{Bool, true, false}
-use mathlib.Core.List.{List, [], _∷_, _++_, append-assoc}
+use mathlib.Core.List.{List, [], _∷_, _++_}
 use Prim.Native.Nat.{ℕ, zero, suc, _+_, _*_, _-_, _/_, _%_, _^_, _≤_, _<_}
 use native.Mathlib.Omega.{arith}
 use native.Mathlib.Numerals.{add-one}
 use native.Mathlib.Nat.{pow-suc, one-le-pow, pow-le-pow-right, zero-add}
 use lib.ListN.{length, take, drop, getD, set, length-append, length-set}
-use lib.Dec.{ltb, leb}
-use lib.Seq.{paste, paste-zero, paste-suc, take-length, length-take-le, length-sets, sets-eq}
+use lib.Dec.{leb}
+use lib.Seq.{paste, paste-zero, paste-suc, take-length, length-take-le, sets-eq}
 use borrow.Author.Needs.{needs}
 use borrow.Author.Tests.{lt-ltb, le-ltb, leb-true, leb-false}
 use Rattle.io.specs.Counts.{Counts}

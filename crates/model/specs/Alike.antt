@@ -1,21 +1,18 @@
 -- Alike texts read as the same model.
-use mathlib.Core.Path.{_≡_, refl, sym, ap, _∙_, subst}
-use mathlib.Core.Bool.{Bool, true, false, cond}
-use mathlib.Core.List.{List, [], _∷_, _++_, map}
+use mathlib.Core.Path.{_≡_, refl, sym, ap, _∙_}
+use mathlib.Core.List.{List, [], _∷_, map}
 use mathlib.Core.Option.{Option, some, Option·map}
 use mathlib.Core.Option as option
-use Prim.Native.Nat.{ℕ, zero, suc, _+_, _-_, _*_, _^_}
+use Prim.Native.Nat.{ℕ, zero, suc, _-_}
 use Prim.Native.String.{String}
 use lib.ListN.{length, getD}
-use lib.IntN.{ℤ, pos, negsuc}
-use Rattle.numerals.specs.Numerals.{Decimal}
+use lib.IntN.{ℤ}
 use Rattle.words.specs.Words.{depth, valuesDepth}
-use Rattle.model.specs.Model.{Nest, Three, Lod, Surface, Semantics, Geometry, Object, Model}
 use Rattle.model.specs.Good.{Both}
 use Rattle.words.specs.Words.{codeOf, geometryWords, objectWords}
 use Rattle.numerals.specs.Numerals.{decimal}
 use Rattle.strings.specs.Strings.{decode}
-use Rattle.json.specs.Tree.{Json, null, bool, num, str, arr, obj, Items, none, _▸_, Members, empty, member, Name}
+use Rattle.json.specs.Tree.{Json, null, bool, num, str, arr, obj, Items, none, _▸_, Members, empty, member}
 use Rattle.nodes.specs.Access.{Member, listed, pairs, elements, members, nameOf, textOf, firstNamed, find}
 use Rattle.model.specs.Read.{get, orNull, numberOf, zeroIfNone, decimalOf, times, integerOf, natural, indexOf, valueOf, threeOf, nestOf, lodOf, surfaceNamed, surfaceOf, semanticsOf, geometryOf, objectOf, modelOf}
 

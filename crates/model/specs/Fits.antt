@@ -1,14 +1,14 @@
 -- What the fields of a sheet can hold.
-use mathlib.Core.List.{List, [], _∷_, _++_}
+use mathlib.Core.List.{[]}
 use mathlib.Core.Option.{Option, none, some}
-use Prim.Native.Nat.{ℕ, zero, suc, _+_, _*_, _^_, _<_}
+use Prim.Native.Nat.{ℕ, zero, suc, _^_, _<_}
 use lib.ListN.{length}
 use lib.IntN.{ℤ}
 use Rattle.model.specs.Code.{All, Holds}
 use Rattle.model.specs.Good.{Shaped, Leaves, AllThree, GoodLod}
 use Rattle.numerals.specs.Numerals.{Decimal}
 use Rattle.words.specs.Words.{depth, valuesDepth}
-use Rattle.model.specs.Model.{Nest, Three, Lod, Surface, listed, added, Semantics, Geometry, Object, ModelOf, Rec, rec, modelRecs}
+use Rattle.model.specs.Model.{Nest, Surface, listed, added, Semantics, Geometry, Object, ModelOf, Rec, rec, modelRecs}
 
 abbrev pub Word : ℕ → Type 0
 Word n = n < 2 ^ 32

@@ -1,15 +1,15 @@
 -- The numbers of known IDs tell the IDs.
-use mathlib.Core.Path.{_≡_, refl, sym, ap, _∙_, subst}
+use mathlib.Core.Path.{_≡_, refl, sym, ap, _∙_}
 use mathlib.Core.Bool.{Bool, true, false, cond, _&&_}
-use mathlib.Core.List.{List, [], _∷_, _++_, map}
-use Prim.Native.Nat.{ℕ, zero, suc, _+_, _≤_, _<_}
+use mathlib.Core.List.{List, [], _∷_, map}
+use Prim.Native.Nat.{ℕ, suc, _<_}
 use native.Mathlib.Omega.{arith}
 use lib.ListN.{length}
 use lib.Dec.{T, eqb, eqb→eq}
 use Rattle.model.specs.Code.{All}
 use Rattle.model.specs.Good.{Known, GoodObject, GoodModel}
 use Rattle.utf8.specs.Utf8.{same}
-use Rattle.model.specs.Model.{Object, Model, ModelOf, numberOf, idsOf, numberObject, numberModel}
+use Rattle.model.specs.Model.{Object, Model, numberOf, idsOf, numberObject, numberModel}
 
 same-step : (a b : ℕ) (l m : List ℕ) (c : Bool) (s : Bool) → (T c → a ≡ b) → (T s → l ≡ m) → T (c && s) → _≡_ {A = List ℕ} (a ∷ l) (b ∷ m)
 same-step a b l m true s f g t = let p = f tt in let q = g t in cc

@@ -3,20 +3,18 @@ use mathlib.Core.Path.{_≡_, refl, sym, ap, _∙_, subst, pathJ}
 use mathlib.Core.List.{List, [], _∷_, _++_, append-assoc, append-nil}
 use mathlib.Core.Bool.{Bool, true, false, cond}
 use mathlib.Core.Option.{Option, none, some}
-use mathlib.Core.Logic.{_⊎_, inl, inr, _≢_, _↔_}
-use Prim.Native.Nat.{ℕ, zero, suc, _+_, _*_, _-_, _/_, _%_, _^_, _≤_, _<_}
+use mathlib.Core.Logic.{_⊎_, inl, inr}
+use Prim.Native.Nat.{ℕ, zero, suc, _+_, _-_, _^_, _<_}
 use native.Mathlib.Omega.{arith}
 use lib.ListN.{length}
 use lib.Dec.{T, eqb}
 use lib.IntN.{ℤ}
-use Rattle.utf8.specs.Laws.{never}
 use Rattle.model.specs.Code.{le, signed, each, All, Holds, Until, Unique, le-unique, signed-unique, each-until, each-same, each-inj, le-full, signed-full}
-use Rattle.numerals.specs.Numerals.{Decimal}
 use Rattle.words.specs.Words.{depth, valuesDepth}
-use Rattle.model.specs.Model.{Nest, Three, Lod, Surface, listed, added, Semantics, Geometry, Object, ModelOf, Rec, rec}
+use Rattle.model.specs.Model.{Nest, Three, Lod, Surface, listed, added, Semantics, Geometry, Rec, rec}
 use Rattle.model.specs.Model.{layRec, layThree, layDecimal, minorCode, lodCode, layNest, layValue, layValues, laySurface, surfaceRecs, semanticsRecs, geometryRecs, objectRecs, modelRecs, layModel}
 use Rattle.model.specs.Good.{AllThree, GoodMinor, GoodLod, Leaves, Both, Shaped}
-use Rattle.model.specs.Fits.{Word, Half, FitDecimal, FitNest, FitValue, FitSurface, FitSemantics, FitGeometry, FitObject, FitRec, FitModel}
+use Rattle.model.specs.Fits.{Word, FitDecimal, FitNest, FitValue, FitSurface, FitSemantics, FitGeometry, FitObject, FitRec, FitModel}
 
 three-unique : {A : Type 0} (Good : A → Type 0) (lay : A → List ℕ) → Unique Good lay → Unique (AllThree Good) (layThree lay)
 unfolding layThree

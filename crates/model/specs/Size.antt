@@ -1,5 +1,5 @@
 -- A sheet is at most 73 times as long as its text, and 78 bytes.
-use mathlib.Core.Path.{_≡_, refl, sym, ap, _∙_, subst}
+use mathlib.Core.Path.{_≡_, refl, ap}
 use mathlib.Core.Bool.{Bool, true, false, cond}
 use mathlib.Core.List.{List, [], _∷_, _++_, map}
 use mathlib.Core.Option.{Option, some, Option·map}
@@ -9,21 +9,21 @@ use native.Mathlib.Omega.{arith}
 use Prim.Native.String.{String}
 use lib.ListN.{length, getD, length-append, length-map}
 use lib.Dec.{eqb}
-use lib.IntN.{ℤ, pos, negsuc}
+use lib.IntN.{ℤ}
 use Rattle.model.specs.Code.{All, le, signed, each}
 use Rattle.numerals.specs.Numerals.{Decimal}
 use Rattle.words.specs.Words.{depth, valuesDepth}
-use Rattle.model.specs.Model.{Nest, Three, Lod, Surface, Semantics, Geometry, Object, Model, Rec, rec}
+use Rattle.model.specs.Model.{Three, Model, Rec, rec}
 use Rattle.model.specs.Model as Model
 use Rattle.utf8.specs.Utf8.{same}
 use Rattle.model.specs.Model.{layRec, layThree, layDecimal, lodCode, layNest, layValue, layValues, laySurface, surfaceRecs, semanticsRecs, geometryRecs, objectRecs, modelRecs, layModel, numberObject, numberModel, idsOf, sheetOf}
 use Rattle.utf8.specs.Ascii.{ascii}
-use Rattle.words.specs.Words.{codeOf, geometryWords, objectWords, surfaceWords}
+use Rattle.words.specs.Words.{codeOf, surfaceWords}
 use Rattle.strings.specs.Strings.{decode}
-use Rattle.json.specs.Tree.{Json, null, bool, num, str, arr, obj, Items, none, _▸_, Members, empty, member, Name}
+use Rattle.json.specs.Tree.{Json, null, bool, num, str, arr, obj, Items, none, _▸_, Members, empty, member}
 use Rattle.nodes.specs.Access.{Member, listed, pairs, elements, members, nameOf, textOf, firstNamed, find}
-use Rattle.model.specs.Read.{get, orNull, decimalOf, integerOf, indexOf, valueOf, threeOf, nestOf, lodOf, surfaceNamed, surfaceOf, semanticsOf, geometryOf, objectOf, modelOf}
-use Rattle.model.specs.Weigh.{length-le, length-signed, each-each, length-rec, weight, weight-cons, weight-append}
+use Rattle.model.specs.Read.{get, orNull, integerOf, indexOf, valueOf, threeOf, nestOf, surfaceNamed, surfaceOf, semanticsOf, geometryOf, objectOf, modelOf}
+use Rattle.model.specs.Weigh.{length-le, length-signed, each-each, weight, weight-cons, weight-append}
 
 -- how many bytes a value takes in a text, at the least
 unfoldable mutual

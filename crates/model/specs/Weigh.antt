@@ -1,18 +1,18 @@
 -- A model as document 01 asks for, whose sheet has fewer than 2^32 bytes, fits the sheet's fields.
-use mathlib.Core.Path.{_≡_, refl, sym, ap, _∙_, subst}
-use mathlib.Core.List.{List, [], _∷_, _++_, map, append-assoc, append-nil}
+use mathlib.Core.Path.{_≡_, refl, sym, ap, _∙_}
+use mathlib.Core.List.{List, [], _∷_, _++_, map, append-assoc}
 use mathlib.Core.Option.{Option, none, some}
-use Prim.Native.Nat.{ℕ, zero, suc, _+_, _*_, _/_, _^_, _≤_, _<_}
+use Prim.Native.Nat.{ℕ, zero, suc, _+_, _/_, _^_, _≤_, _<_}
 use native.Mathlib.Omega.{arith}
 use lib.ListN.{length, length-append, length-map}
 use lib.IntN.{ℤ, pos, negsuc, natAbs}
 use lib.Signed.{mag}
-use Rattle.model.specs.Code.{le, signed, each, All, Holds}
+use Rattle.model.specs.Code.{le, signed, each, All}
 use Rattle.numerals.specs.Numerals.{Decimal}
 use Rattle.words.specs.Words.{depth, valuesDepth}
-use Rattle.model.specs.Model.{Nest, Three, Lod, Surface, listed, added, Semantics, Geometry, Object, Model, ModelOf, Rec, rec}
-use Rattle.model.specs.Model.{layRec, layThree, layDecimal, lodCode, layNest, layValue, layValues, laySurface, surfaceRecs, semanticsRecs, geometryRecs, objectRecs, modelRecs, layModel, sheetOf, numberOf, idsOf, numberObject, numberModel}
-use Rattle.model.specs.Good.{AllThree, Leaves, GoodDecimal, GoodVertex, GoodLod, GoodSurface, GoodValue, GoodSemantics, GoodGeometry, Known, GoodObject, GoodModel}
+use Rattle.model.specs.Model.{Nest, Three, Surface, listed, added, Semantics, Geometry, Object, Model, ModelOf, Rec, rec}
+use Rattle.model.specs.Model.{layRec, layThree, lodCode, layNest, layValues, surfaceRecs, semanticsRecs, geometryRecs, objectRecs, modelRecs, layModel, sheetOf, numberOf, idsOf, numberObject, numberModel}
+use Rattle.model.specs.Good.{AllThree, Leaves, GoodDecimal, GoodSurface, GoodValue, GoodSemantics, GoodGeometry, Known, GoodObject, GoodModel}
 use Rattle.model.specs.Fits.{Word, Half, FitDecimal, FitNest, FitValue, FitSurface, FitSemantics, FitGeometry, FitObject, FitRec, FitModel}
 
 -- ---- All

@@ -1,14 +1,14 @@
-use mathlib.Core.Path.{_≡_, refl, sym, ap, _∙_, subst}
-use mathlib.Core.List.{List, [], _∷_, _++_, append-assoc, append-nil}
-use mathlib.Core.Option.{Option, none, some}
-use Prim.Native.Nat.{ℕ, zero, suc, _+_, _*_, _-_, _/_, _%_, _^_, _≤_, _<_}
+use mathlib.Core.Path.{_≡_, refl}
+use mathlib.Core.List.{List, [], _∷_}
+use mathlib.Core.Option.{none}
+use Prim.Native.Nat.{ℕ, _-_}
 use lib.ListN.{length}
 use lib.IntN.{ℤ, pos, negsuc}
 use Rattle.model.specs.Code.{le, signed, each}
 use Rattle.numerals.specs.Numerals.{Decimal}
-use Rattle.words.specs.Words.{depth, valuesDepth}
-use Rattle.model.specs.Model.{Nest, Three, Lod, Surface, listed, added, Semantics, Geometry, Object, ModelOf, Rec, rec}
-use Rattle.model.specs.Model.{layRec, layThree, layDecimal, minorCode, lodCode, layNest, layValue, layValues, laySurface, surfaceRecs, semanticsRecs, geometryRecs, objectRecs, modelRecs, layModel}
+use Rattle.words.specs.Words.{depth}
+use Rattle.model.specs.Model.{Three, ModelOf}
+use Rattle.model.specs.Model.{layRec, layThree, layDecimal, minorCode, lodCode, layNest, semanticsRecs, geometryRecs, objectRecs, modelRecs, layModel}
 
 dec : ℤ → ℤ → Decimal
 dec m e = record { m = m; e = e }

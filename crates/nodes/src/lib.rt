@@ -1,10 +1,10 @@
 // Nodes of the table of a JSON text: what stands at a node, and what stands below it.
 // A fault is a rule with its place as one number; a function that looks for faults takes the least so far and gives the least.
-ghost use Prim.Native.Nat.{_+_, _*_, _/_, _<_, _≤_, min};
+ghost use Prim.Native.Nat.{_+_, _*_, _<_, _≤_, min};
 ghost use mathlib.Core.Path.{_≡_};
 ghost use lib.ListN.{length, getD};
 ghost use Rattle.nodes.specs.Access.{isNullValue, isNumberValue, isStringValue, isArrayValue, isObjectValue, elements, members, firstNamed};
-ghost use Rattle.nodes.specs.Faults.{fault, least};
+ghost use Rattle.nodes.specs.Faults.{fault};
 ghost use Rattle.nodes.specs.Says.{Node, Gives, Seeks};
 
 // What a search gives: the node of what is sought, or that there is none.

@@ -2,9 +2,8 @@
 use Prim.Native.Nat.{ℕ, zero, suc, _+_, _-_, _*_, _^_, _≤_, _<_}
 use native.Mathlib.Omega.{arith}
 use native.Mathlib.Nat.{pow-suc, pow-le-pow-right, mul-le-mul-right, mul-assoc, mul-comm, le-trans}
-use native.Mathlib.Numerals.{add-one}
 use mathlib.Core.Path.{_≡_, refl, sym, ap, _∙_}
-use mathlib.Core.Bool.{Bool, true, false, cond, _&&_, _||_, not, and-false}
+use mathlib.Core.Bool.{Bool, true, false, cond, _&&_, and-false}
 use mathlib.Core.List.{List, [], _∷_, _++_}
 use lib.ListN.{length, getD}
 use lib.Seq.{slice, length-slice}
@@ -14,9 +13,9 @@ use mir.Syntax.{w64}
 use mir.Val.{Fits}
 use borrow.Author.Tests.{ne-eqb, eq-eqb, lt-ltb, le-ltb}
 use Rattle.numerals.specs.Numerals.{isDigit, isPoint, isLetter, isInteger, integer, digits, natural, negative, signed, fits32}
-use Rattle.numerals.specs.Laws.{clash, digit-low, digit-high}
+use Rattle.numerals.specs.Laws.{clash, digit-high}
 use Rattle.numerals.specs.Reading.{allDigits, quickOf, isShort, Quick, Short}
-use Rattle.numerals.proofs.Bytes.{bytes, slice-next, slice-out, digits-more, digits-same}
+use Rattle.numerals.proofs.Bytes.{bytes, slice-next, slice-out, digits-more}
 
 -- a digit is no sign, no point and no letter
 module _ (b : ℕ) (e : true ≡ isDigit b) where

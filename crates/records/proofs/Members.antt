@@ -1,27 +1,26 @@
 -- Members of a value at a node, and the records of a geometry. Assumes nothing.
-use Prim.Native.Nat.{ℕ, _≤_}
+use Prim.Native.Nat.{ℕ}
 use Prim.Native.String.{String}
-use mathlib.Core.Path.{_≡_, refl, sym, ap, _∙_, subst}
+use mathlib.Core.Path.{_≡_, sym, ap, _∙_, subst}
 use mathlib.Core.Bool.{true}
 use mathlib.Core.List.{List, [], _++_, append-nil}
 use mathlib.Core.Option.{Option, none, some}
-use lib.ListN.{length}
 use Rattle.utf8.specs.Laws.{clash}
 use Rattle.strings.specs.Spans.{decodeAt}
 use Rattle.json.specs.Tree.{Json}
 use Rattle.json.specs.Table.{Sub}
 use Rattle.nodes.specs.Access.{find}
-use Rattle.nodes.specs.Says.{Node, Sought, Finds, Seeks, GivesFound}
+use Rattle.nodes.specs.Says.{Finds, Seeks, GivesFound}
 use Rattle.nodes.specs.declared.Found.{Found}
 use Rattle.nodes.specs.declared.Found.the-variants.{At, Nothing}
 use Rattle.fields.specs.Fields.{textIn, typeText}
 use Rattle.words.specs.Words.{geometryWords, codeOf, isLod, depth, valuesDepth}
 use Rattle.model.specs.Code.{le}
-use Rattle.model.specs.Model.{rec, layRec, layThree, layDecimal, lodCode, layNest, layValues}
+use Rattle.model.specs.Model.{layThree, layDecimal, lodCode, layNest, layValues}
 use Rattle.model.specs.Read.{get, orNull, decimalOf, indexOf, valueOf, threeOf, nestOf, lodOf}
 use Rattle.writer.specs.Writes.{Writes, Closes}
 use Rattle.writer.specs.Laws.{then, as-bytes}
-use Rattle.arrays.specs.Fits.{Pair, Index, Value, Elements, Triple, Leaves}
+use Rattle.arrays.specs.Fits.{Pair, Index, Value, Triple, Leaves}
 use Rattle.arrays.specs.Says.{Holds, Wrote, WroteFound}
 use Rattle.arrays.specs.Unique.{unique}
 use Rattle.arrays.specs.Laws.{holds-at, holds-as, wrote-as, wrote-then}

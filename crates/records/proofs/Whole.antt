@@ -1,32 +1,28 @@
 -- City objects and the whole sheet. Assumes nothing.
-use Prim.Native.Nat.{ℕ, zero, suc, _+_, _-_, _≤_, _<_, min}
+use Prim.Native.Nat.{ℕ, zero, suc, _+_, _-_, _≤_, _<_}
 use native.Mathlib.Omega.{arith}
 use native.Mathlib.Numerals.{add-one}
-use mathlib.Core.Path.{_≡_, refl, sym, ap, _∙_, subst}
+use mathlib.Core.Path.{_≡_, refl, sym, ap, _∙_}
 use mathlib.Core.List.{List, [], _∷_, _++_, append-assoc, append-nil}
-use mathlib.Core.Option.{some}
 use lib.ListN.{length, getD, drop, drop-of-length-le}
 use lib.Seq.{drop-cons}
-use Rattle.json.specs.Tree.{Json, Name}
+use Rattle.json.specs.Tree.{Json}
 use Rattle.json.specs.Table.{Sub}
 use Rattle.nodes.specs.Access.{Member, find}
-use Rattle.nodes.specs.Says.{Node, Seeks}
+use Rattle.nodes.specs.Says.{Seeks}
 use Rattle.nodes.specs.declared.Found.{Found}
-use Rattle.nodes.specs.declared.Found.the-variants.{At, Nothing}
+use Rattle.nodes.specs.declared.Found.the-variants.{At}
 use Rattle.fields.specs.Fields.{objectsOf}
-use Rattle.fields.specs.Says.{MemberAt, Indexed}
 use Rattle.fields.specs.declared.Index.{Index}
-use Rattle.ids.specs.Says.{Offsets, Objects, MemberNode, namesOf}
+use Rattle.ids.specs.Says.{Offsets, MemberNode, namesOf}
 use Rattle.ids.proofs.Rules.{nobody}
 use Rattle.model.specs.Code.{each, All}
-use Rattle.model.specs.Model.{rec, layRec, sheetOf}
-use Rattle.model.specs.Read.{get, modelOf}
-use Rattle.writer.specs.Writes.{Writes, Skips, Closes}
+use Rattle.writer.specs.Writes.{Writes, Closes}
 use Rattle.writer.specs.Laws.{nothing, then, as-bytes}
 use Rattle.arrays.specs.Fits.{Elements, Triple, Coordinate}
 use Rattle.arrays.specs.Says.{Holds, Wrote, WroteFound}
 use Rattle.arrays.specs.Laws.{holds-at, holds-as}
-use Rattle.records.specs.Fits.{Has, Perhaps, Text, GeometryFits, ObjectFits, TransformFits, RootFits}
+use Rattle.records.specs.Fits.{Has, Perhaps, Text, GeometryFits, ObjectFits, TransformFits}
 use Rattle.records.specs.Bytes.{eachIn, geometryBytes, objectBytes, transformBytes, verticesBytes}
 use Rattle.records.specs.Parts.{object-parts, sheet-parts}
 use Rattle.records.specs.Says.{LinksWrote, IdentityWrote, ObjectWrote, Placed, ObjectsWrote, Ready, SheetWrote}

@@ -1,17 +1,16 @@
 -- Filling the index of the city objects. Assumes nothing.
-use Prim.Native.Nat.{ℕ, _+_, _-_, _*_, _^_, _≤_, _<_, min}
+use Prim.Native.Nat.{ℕ, _+_, _-_, _≤_, _<_, min}
 use native.Mathlib.Omega.{arith}
 use native.Mathlib.Decide.{decLt}
 use mathlib.Core.Path.{_≡_, refl, sym, ap, _∙_, subst}
 use mathlib.Core.Logic.{_≢_}
 use mathlib.Core.Bool.{Bool, true, false, not}
-use mathlib.Core.Option.{Option, none, some}
+use mathlib.Core.Option.{Option, none}
 use borrow.Author.Tests.{not-true, not-false}
 use mathlib.Core.List.{List, [], _∷_, _++_, append-assoc, append-nil}
 use lib.ListN.{length, getD, set, drop, length-append, length-set, List·getD-append, drop-of-length-le}
 use lib.Seq.{drop-at, getD-set-same, getD-set-other, getD-append-seam}
-use Rattle.json.specs.Tree.{Json, Members}
-use Rattle.json.specs.Tree as tree
+use Rattle.json.specs.Tree.{Json}
 use Rattle.json.specs.Table.{Sub}
 use Rattle.json.specs.Laws.{MembersLeft, MemberPast, member-past, member-over, members-ended}
 use Rattle.nodes.specs.Access.{isObjectValue, Member, pairs, members, find}

@@ -5,7 +5,7 @@ use mathlib.Core.Bool.{Bool, cond, not, _||_}
 use mathlib.Core.List.{List, [], _∷_, _++_}
 use mathlib.Core.Option.{Option, some}
 use mathlib.Core.Option as option
-use lib.ListN.{length, drop}
+use lib.ListN.{drop}
 use lib.Dec.{eqb}
 use Rattle.utf8.specs.Ascii.{ascii}
 use Rattle.utf8.specs.Utf8.{same}

@@ -1,6 +1,6 @@
 -- Worked examples of decoding. Assumes nothing.
 use mathlib.Core.Path.{_≡_, refl}
-use mathlib.Core.List.{List, [], _∷_}
+use mathlib.Core.List.{[], _∷_}
 use Rattle.strings.specs.Strings.{decode, unpairedFrom}
 
 -- a\n\u00e9

@@ -1,7 +1,7 @@
 -- Verdicts by computation: the sample reading of document 01 that has no star, and two texts that are accepted. The starred readings are in `sheets`. Assumes nothing.
 use Prim.Native.Nat.{ℕ}
 use mathlib.Core.Path.{_≡_, refl}
-use mathlib.Core.List.{List, [], _∷_, _++_}
+use mathlib.Core.List.{List, [], _++_}
 use lib.ListN.{replicate}
 use Rattle.utf8.specs.Ascii.{ascii}
 use Rattle.json.specs.Tree.{_◂_, with}

@@ -1,7 +1,7 @@
 -- Every fault of a tree of a text that is short enough is one of its rules with a place below 65,536. Assumes nothing.
 use Prim.Native.Nat.{ℕ, zero, suc, _+_, _*_, _≤_, _<_}
 use native.Mathlib.Omega.{arith}
-use mathlib.Core.Path.{_≡_, refl, sym, _∙_, ap, subst}
+use mathlib.Core.Path.{_≡_, refl}
 use mathlib.Core.Bool.{Bool, true, false, cond, not, _||_, _&&_}
 use mathlib.Core.List.{List, [], _∷_, _++_, map, List·Memᴰ, List·Memᴰ·head, List·Memᴰ·tail}
 use mathlib.Core.Option.{Option, some}
@@ -11,8 +11,7 @@ use lib.ListN.{length, drop}
 use lib.Dec.{T, eqb, leb, ltb, leb→le, ltb→lt}
 use Rattle.utf8.specs.Ascii.{ascii}
 use Rattle.utf8.specs.Utf8.{same}
-use Rattle.json.specs.Tree.{Json, Items, _▸_, Members, member, Name, placeOf}
-use Rattle.json.specs.Tree as tree
+use Rattle.json.specs.Tree.{Json, Items, Members, Name, placeOf}
 use Rattle.grammar.specs.Order.{Spans, Row, Rows}
 use Rattle.grammar.specs.Order as order
 use Rattle.strings.specs.Strings.{decode, unpairedFrom}

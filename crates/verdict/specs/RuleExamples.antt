@@ -5,7 +5,7 @@ use mathlib.Core.Path.{_≡_, refl}
 use mathlib.Core.List.{List, [], _∷_, _++_, map}
 use lib.ListN.{length}
 use Rattle.utf8.specs.Ascii.{ascii}
-use Rattle.json.specs.Tree.{Json, num, str, arr, obj, none, _▸_, Members, empty, member, Name}
+use Rattle.json.specs.Tree.{Json, num, str, arr, obj, none, _▸_, Members, empty, member}
 use Rattle.json.specs.Machine.{reads, read}
 use Rattle.everywhere.specs.Everywhere.{rule5}
 use Rattle.nodes.specs.Faults.{fault, least, none as top}

@@ -1,7 +1,7 @@
 -- The verdict of a text (document 01, section "Verdict and place"). Assumes nothing: these are definitions.
 use Prim.Native.Nat.{ℕ, _+_}
-use mathlib.Core.Bool.{Bool, true, false, cond}
-use mathlib.Core.List.{List, [], _∷_, _++_, map}
+use mathlib.Core.Bool.{true, false, cond}
+use mathlib.Core.List.{List, [], _++_, map}
 use lib.ListN.{length}
 use lib.Dec.{ltb}
 use Rattle.utf8.specs.Utf8.{wholeLength}

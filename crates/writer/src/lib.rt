@@ -1,5 +1,5 @@
 // Writes bytes to a lent sheet as far as they fit. A place in the sheet is a cursor, which may lie past the sheet's end: what does not fit is counted and not written.
-ghost use Prim.Native.Nat.{_+_, _*_, _^_, _≤_, _<_};
+ghost use Prim.Native.Nat.{_+_, _^_, _≤_, _<_};
 ghost use mathlib.Core.Path.{_≡_};
 ghost use lib.ListN.{length, replicate};
 ghost use Rattle.strings.specs.Spans.{Span, decodeAt};

@@ -1,12 +1,11 @@
 -- `arrays::values` meets its contract. The measure is the depth. Assumes nothing.
 use Prim.Native.Nat.{ℕ, _-_, _<_}
-use native.Mathlib.Omega.{arith}
 use borrow.Fn.Kinds.{In}
 use borrow.Fn.PlainCycle.{Measures, is, falls, and}
 use Rattle.model.specs.Model.{layValues}
 use Rattle.model.specs.Read.{valueOf, nestOf}
 use Rattle.arrays.specs.Fits.{Value, Leaves}
-use Rattle.arrays.specs.Laws.{Laying, laying-none, laying-item, laying-room, laying-done}
+use Rattle.arrays.specs.Laws.{Laying, laying-none, laying-room, laying-done}
 use Rattle.arrays.proofs.Nodes.{values-leaf, values-array}
 use Rattle.arrays.proofs.Rules.{arrays}
 use Rattle.arrays.proofs.values.Reads as reads

@@ -7,8 +7,6 @@ use Rattle.kebrawish.proofs.Bounds.{place-small, count-small, number-sm
 use borrow.Author.Needs.{needs}
 use Rattle.kebrawish.proofs.kebrawish_judge.Statement.{statement}
 use Rattle.kebrawish.proofs.kebrawish_judge.Tie as tie
-use Rattle.kebrawish.proofs.kebrawish_judge.Reads as reads
-use Rattle.kebrawish.proofs.kebrawish_judge.Lts as lts
 
 -- src/lib.rt:175:9
 judge-requires : tie.Need-judge-requires

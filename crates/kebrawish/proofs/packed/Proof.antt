@@ -3,8 +3,6 @@ use Rattle.kebrawish.specs.Answers.{word}
 use borrow.Author.Needs.{needs}
 use Rattle.kebrawish.proofs.packed.Statement.{statement}
 use Rattle.kebrawish.proofs.packed.Tie as tie
-use Rattle.kebrawish.proofs.packed.Reads as reads
-use Rattle.kebrawish.proofs.packed.Lts as lts
 
 -- src/lib.rt:167:5
 mul-result : tie.Need-mul-result

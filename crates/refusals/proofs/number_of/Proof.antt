@@ -3,8 +3,6 @@ use Rattle.refusals.specs.Refusals.{numberOf}
 use borrow.Author.Needs.{needs}
 use Rattle.refusals.proofs.number_of.Statement.{statement}
 use Rattle.refusals.proofs.number_of.Tie as tie
-use Rattle.refusals.proofs.number_of.Reads as reads
-use Rattle.refusals.proofs.number_of.Lts as lts
 
 -- src/lib.rt:138:28
 enum-told : tie.Need-enum-told

@@ -6,8 +6,6 @@ use native.Mathlib.Omega.{arith}
 use Rattle.refusals.specs.Refusals.{numberOf}
 use Rattle.refusals.proofs.rule_of.Statement.{statement}
 use Rattle.refusals.proofs.rule_of.Tie as tie
-use Rattle.refusals.proofs.rule_of.Reads as reads
-use Rattle.refusals.proofs.rule_of.Lts as lts
 
 -- a number that is not the least
 past : (a n : ℕ) → a ≤ n → (OneOf (a ∷ []) n → ⊥) → a + 1 ≤ n

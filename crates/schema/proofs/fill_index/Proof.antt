@@ -3,7 +3,6 @@ use Prim.Native.Nat.{_-_}
 use native.Mathlib.Omega.{arith}
 use mathlib.Core.Path.{refl}
 use Rattle.nodes.specs.Walks.{node-room}
-use Rattle.schema.proofs.Objects.{root}
 use Rattle.schema.proofs.Filling.{Filling, fill-begin, fill-room, fill-less, fill-turn, fill-stop, fill-done}
 use Rattle.schema.proofs.fill_index.Statement.{statement}
 use Rattle.schema.proofs.fill_index.Tie as tie
