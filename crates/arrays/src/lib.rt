@@ -140,7 +140,11 @@ pub fn boundary(
     let mut o = first;
     let mut k = i + 3;
     while k < n {
-        o = boundary(text, table, k, depth - 1, sheet, o);
+        if depth == 1 {
+            o = index(text, table, k, sheet, o);
+        } else {
+            o = boundary(text, table, k, depth - 1, sheet, o);
+        }
         count += 1;
         k = nodes::next(table, k);
     }

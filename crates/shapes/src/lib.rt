@@ -357,7 +357,11 @@ pub fn boundary(text: &[u8], table: &[u32], i: usize, depth: usize, count: usize
     let mut least = best;
     let mut k = i + 3;
     while k < n {
-        least = boundary(text, table, k, depth - 1, count, least);
+        if depth == 1 {
+            least = leaf(text, table, k, count, least);
+        } else {
+            least = boundary(text, table, k, depth - 1, count, least);
+        }
         k = nodes::next(table, k);
     }
     least

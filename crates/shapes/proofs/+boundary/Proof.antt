@@ -1,10 +1,12 @@
 -- `shapes::boundary` meets its contract. The measure is the depth. Assumes nothing.
 use Prim.Native.Nat.{ℕ, _-_, _<_}
+use native.Mathlib.Omega.{arith}
 use mathlib.Core.List.{_++_}
+use mathlib.Core.Logic.{⊎-elim}
 use borrow.Fn.Kinds.{In}
 use borrow.Fn.PlainCycle.{Measures, is, falls, and}
 use Rattle.shapes.specs.Shapes as shape
-use Rattle.shapes.specs.Laws.{Pass, pass-done}
+use Rattle.shapes.specs.Laws.{Pass, pass-turn, pass-done}
 use Rattle.shapes.proofs.Outline.{boundary-leaf, boundary-no, boundary-yes}
 use Rattle.shapes.proofs.Rules.{shapes}
 use Rattle.shapes.proofs.boundary.Reads as boundary
@@ -43,8 +45,17 @@ module _ (t : ℕ) where
   returns-2 : lts.Need-returns-2 (calls t) (now-at t) boundary.Post Inv μ-loop
   returns-2 c = boundary-no _ _ _ (c .before .before .before .if1 .left) (c .before .before .is-array .ensures) (c .before .if2 .taken) (c .unless .ensures)
 
+  -- an element, at the last level or above it
+  loop-again : lts.Need-loop-again (calls t) (now-at t) boundary.Post Inv μ-loop
+  loop-again c =
+      pass-turn
+      (c .before .before .before .loop .inv)
+      (c .before .before .loop-test .taken)
+      (⊎-elim (λ a. rw (a .2) (boundary-leaf _ _ _ (omega (arith, a .0 .taken)) (a .1 .ensures))) (λ b. rw (b .2) (b .1 .ensures)) (c .before .if3 .came))
+      (c .next2 .ensures)
+
   returns-3 : lts.Need-returns-3 (calls t) (now-at t) boundary.Post Inv μ-loop
   returns-3 c = boundary-yes _ _ _ (c .before .before .before .before .before .if1 .left) (c .before .before .before .before .is-array .ensures) (c .before .before .before .if2 .left) (pass-done (c .before .loop .inv) (c .loop-test .left))
 
 pub +boundary-spec : {M : Type 1} → statement M
-+boundary-spec = close μ λ t. lts.spec (calls t) (now-at t) boundary.Post Inv μ-loop (λ c κs. search shapes) (returns t) (λ c κs. search shapes) (λ c κs. search shapes) (returns-2 t) (λ c κs. search shapes) (λ c. search shapes) (λ c. search shapes) (λ c. search shapes) (λ c κs. search shapes) (λ c κs. search shapes) (λ c. search shapes) (λ c. search shapes) (returns-3 t)
++boundary-spec = close μ λ t. lts.spec (calls t) (now-at t) boundary.Post Inv μ-loop (λ c κs. search shapes) (returns t) (λ c κs. search shapes) (λ c κs. search shapes) (returns-2 t) (λ c κs. search shapes) (λ c. search shapes) (λ c. search shapes) (λ c κs. search shapes) (λ c. search shapes) (λ c κs. search shapes) (λ c κs. search shapes) (λ c. search shapes) (loop-again t) (returns-3 t)
