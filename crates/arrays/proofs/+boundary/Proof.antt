@@ -62,15 +62,14 @@ module _ (t : ℕ) where
 
   -- an element, at the last level or above it
   loop-again : lts.Need-loop-again (calls t) (now-at t) reads.Post Inv μ-loop
-  loop-again c =
-      (
-        laying-turn
+  loop-again c = (
+    laying-turn
         (c .before .before .before .loop .inv .0)
         (c .before .before .loop-test .taken)
         (⊎-elim (λ a. rw (a .5, a .6) (nest-leaf _ (omega (arith, a .0 .taken)) (a .2 .ensures))) (λ b. rw (b .5, b .6) (b .2 .ensures)) (c .before .if3 .came))
         (c .next2 .ensures),
-        counting-turn (c .before .before .before .loop .inv .1) (c .before .before .loop-test .taken) (c .next2 .ensures),
-      )
+    counting-turn (c .before .before .before .loop .inv .1) (c .before .before .loop-test .taken) (c .next2 .ensures),
+  )
 
   returns-3 : lts.Need-returns-3 (calls t) (now-at t) reads.Post Inv μ-loop
   returns-3 c = nest-array _ (c .before .before .before .before .before .before .before .before .before .before .if1 .left) (counting-done (c .before .before .before .before .before .loop .inv .1) (c .before .before .before .before .loop-test .left)) (c .before .before .before .before .before .before .skip .ensures) (laying-done (c .before .before .before .before .before .loop .inv .0) (c .before .before .before .before .loop-test .left)) (c .before .before .put42 .ensures)
