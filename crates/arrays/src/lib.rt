@@ -117,6 +117,7 @@ fn index(text: &[u8], table: &[u32], i: usize, sheet: &mut [u8], at: usize) -> u
 }
 
 // A boundary of that depth: each array as its count and its elements. The count is written last, at the place that was kept for it.
+// The indices of an array are written in its own loop, not by a call of this function for each.
 pub fn boundary(
     text: &[u8],
     table: &[u32],

@@ -16,7 +16,7 @@ use borrow.Author.Tests.{ltb-true, leb-true, le-ltb, eqb-true}
 use Rattle.utf8.specs.Ascii.{ascii}
 use Rattle.utf8.specs.Finite.{each-below}
 use Rattle.utf8.specs.Laws.{both-left, both-right, never}
-use Rattle.json.specs.Says.{Unescaped, byteAt, Eight, Marked, Typed}
+use Rattle.json.specs.Says.{Unescaped, byteAt, Eight, Marked, typeStart, Typed}
 
 -- the number with k bytes, each of them c
 abbrev rep : ℕ → ℕ → ℕ
@@ -56,7 +56,7 @@ record Clear (b : ℕ) : Type 0 where
   pub some-34 : 1 ≤ bitXor b 34
   pub some-92 : 1 ≤ bitXor b 92
 
--- it holds for all bytes, which is computed
+-- `fine` is so of every byte, which is computed
 clear : (b : ℕ) → b < 256 → mark b ≡ 0 → Clear b
 unfolding fine
 clear b l e =
@@ -241,9 +241,9 @@ module _ (text : List ℕ) (i : ℕ) (bytes : (j : ℕ) → getD text j 0 < 256)
   eight-of = record { same = λ j l. joined-byte 7 j (omega arith) (omega arith) }
 
 -- the bytes of the number that `is_type` looks for
-type-byte : (j : ℕ) → j < 8 → byteAt j 0x223a_2265_7079_7422 ≡ getD (ascii "\"type\":\"") j 0
+type-byte : (j : ℕ) → j < 8 → byteAt j 0x223a_2265_7079_7422 ≡ getD typeStart j 0
 unfolding byteAt ascii
-type-byte j l = eqb-true _ _ (each-below (λ j. eqb (byteAt j 0x223a_2265_7079_7422) (getD (ascii "\"type\":\"") j 0)) 8 j refl l)
+type-byte j l = eqb-true _ _ (each-below (λ j. eqb (byteAt j 0x223a_2265_7079_7422) (getD typeStart j 0)) 8 j refl l)
 
 pub typed : {text : List ℕ} {at x : ℕ} → Eight text at x → 8 ≤ length text - at → Typed text at (eqb x 0x223a_2265_7079_7422)
 typed {text} {at} {x} e l = record { inside = λ q. omega arith; same = λ q j h. sym (e .same j h) ∙ rw (eqb-true x 0x223a_2265_7079_7422 q) (type-byte j h) }

@@ -18,7 +18,7 @@ use Rattle.json.specs.Machine.{Frame, Mode, value, step, go, isBlank, is
 use Rattle.json.specs.Machine.Role.{name}
 use Rattle.json.specs.Machine.Mode.{want, name1, colon, neg, nought, int, mant, chars}
 use Rattle.json.specs.Table.{size, Words, Quoted, isNumeric, Sub, null, bool, num, str}
-use Rattle.json.specs.Says.{from, Within, Reads, Stays, Skips, blanks, digital, numbered, charsOf, closedOf, ReadsString, Unescaped, Typed, WordAt, literalOf, ReadsWord, Placed, Fits, Wrote, Quote, Leaf, Scalar, Digits, Ready, Atom, Names}
+use Rattle.json.specs.Says.{from, Within, Reads, Stays, Skips, blanks, digital, numbered, charsOf, closedOf, ReadsString, Unescaped, typeStart, Typed, WordAt, literalOf, ReadsWord, Placed, Fits, Wrote, Quote, Leaf, Scalar, Digits, Ready, Atom, Names}
 use Rattle.json.specs.declared.Scan.{Scan}
 use Rattle.json.specs.declared.Scan.the-variants.{End, Bad}
 use Rattle.json.specs.declared.Walk.the-variants as walk
@@ -243,14 +243,15 @@ module _ {x : List ℕ} {at i : ℕ} (k : Skips blanks isBlank x at i) where
         pub named : (t₀ t : List ℕ) (n : ℕ) → j < length x → getD x j 0 ≡ 58 → Wrote t₀ t n i e (n + 3) → Names x t₀ t at n (End (j + 1))
         named t₀ t n h c w = colon-at (k₂ .stays) t₀ t n h c w
 
+-- a quote is no white space
 pub at-quote : {text : List ℕ} {at : ℕ} → at ≤ length text → getD text at 0 ≡ 34 → Skips blanks isBlank text at at
 at-quote {text} {at} h b = record { stays = stays-none blanks text at h; stop = λ l. over-blank (getD text at 0) (omega arith) }
 
 -- the name that `is_type` found, and its colon
-letter : (j : ℕ) → j < 4 → Unescaped (getD (ascii "\"type\":\"") (1 + j) 0)
+letter : (j : ℕ) → j < 4 → Unescaped (getD typeStart (1 + j) 0)
 unfolding ascii
 letter j l =
-    let h = ltb-true 92 (getD (ascii "\"type\":\"") (1 + j) 0) (each-below (λ j. ltb 92 (getD (ascii "\"type\":\"") (1 + j) 0)) 4 j refl l) in
+    let h = ltb-true 92 (getD typeStart (1 + j) 0) (each-below (λ j. ltb 92 (getD typeStart (1 + j) 0)) 4 j refl l) in
     record { no-quote = λ e. omega arith; no-backslash = λ e. omega arith; no-control = omega arith }
 
 module _ {x : List ℕ} {at : ℕ} {r : Bool} (k : Typed x at r) (q : r ≡ true) where

@@ -149,10 +149,14 @@ pub record Passes (text : List ℕ) (at r : ℕ) : Type 0 where
   pub high : r ≤ length text
   pub reads : Reads text charsOf (to charsOf) at (scan.End r)
 
--- what `is_type` tells: if it is so, the eight bytes from the offset at on are these
+-- the bytes that `is_type` looks for: a name, its colon, and the quote of a string
+abbrev pub typeStart : List ℕ
+typeStart = ascii "\"type\":\""
+
+-- what `is_type` tells: if it is so, they stand in the text from the offset at on
 pub record Typed (text : List ℕ) (at : ℕ) (r : Bool) : Type 0 where
   pub inside : r ≡ true → at + 8 ≤ length text
-  pub same : r ≡ true → (j : ℕ) → j < 8 → getD text (at + j) 0 ≡ getD (ascii "\"type\":\"") j 0
+  pub same : r ≡ true → (j : ℕ) → j < 8 → getD text (at + j) 0 ≡ getD typeStart j 0
 
 -- a word that is being read: where it began, and what it stands for
 pub record WordAt : Type 0 where

@@ -1,3 +1,4 @@
+-- The two worked sheets of document 01, by computation. Assumes nothing.
 use mathlib.Core.Path.{_≡_, refl}
 use mathlib.Core.List.{List, [], _∷_}
 use mathlib.Core.Option.{none}
@@ -16,7 +17,6 @@ dec m e = record { m = m; e = e }
 three : {A : Type 0} → A → Three A
 three a = record { x = a; y = a; z = a }
 
--- The two worked sheets of document 01, by computation.
 -- scale 0.001 three times, translate 0.0 three times
 minimal : ModelOf ℕ
 unfolding dec three

@@ -12,7 +12,7 @@ use Rattle.utf8.specs.Laws.{never}
 use Rattle.strings.specs.Strings.{decode}
 use Rattle.strings.specs.Spans.{Span, decodeAt}
 use Rattle.json.specs.Machine.{isDigit}
-use Rattle.json.specs.Tree.{Json, Members, placeOf, endOf}
+use Rattle.json.specs.Tree.{Json, Members, placeOf}
 use Rattle.json.specs.Tree as tree
 use Rattle.json.specs.Table.{Quoted, isNumeric, Sub, null, bool, num, str, arr, obj}
 use Rattle.json.specs.Laws.{other-byte, words, Left, begin, MembersLeft, members-begin}
@@ -126,9 +126,6 @@ module _ {x t : List ℕ} where
   -- where a value starts and ends
   pub place-at : {i : ℕ} {v : Json} → Sub x t i v → placeOf v ≡ getD t i 0
   place-at s = sym (words s .start)
-
-  pub end-at : {i : ℕ} {v : Json} → Sub x t i v → endOf v ≡ getD t (i + 1) 0
-  end-at s = sym (words s .end)
 
   pub place-below : {i : ℕ} {v : Json} → Sub x t i v → length x ≤ 65535 → getD t i 0 < 65536
   place-below s h = let w = words s in omega (arith, w .start, w .some, w .inside)

@@ -4,7 +4,6 @@ use Prim.Native.String.{String}
 use mathlib.Core.Path.{_≡_, refl, sym, ap, _∙_}
 use mathlib.Core.Bool.{Bool, true, false, not, _||_}
 use mathlib.Core.List.{List, [], _∷_, _++_}
-use mathlib.Core.Option.{Option}
 use native.Mathlib.Omega.{arith}
 use lib.ListN.{length, getD}
 use lib.Seq.{slice}
@@ -20,12 +19,11 @@ use Rattle.json.specs.Table.{Sub}
 use Rattle.json.specs.Laws.{words, Left, Past, past, over, ended, MembersLeft, MemberPast, member-past, member-over, members-ended}
 use Rattle.nodes.specs.Access.{isNumberValue, isStringValue, isArrayValue, isObjectValue, listed, elements, pairs, members, firstNamed, find, textOf, numeralOf}
 use Rattle.nodes.specs.Faults.{fault, least}
-use Rattle.nodes.specs.Says.{Node, Gives, Finds, Seeks}
+use Rattle.nodes.specs.Says.{Node, Gives, Seeks}
 use Rattle.nodes.specs.declared.Found.{Found}
-use Rattle.nodes.specs.declared.Found.the-variants.{At, Nothing}
 use Rattle.nodes.specs.Walks.{node-room, node-second, node-first, node-onward}
 use Rattle.nodes.specs.Laws.{place-at, text-at, numeral-at, elements-begin, fields-begin, no-elements, no-members, least-++, least-comm}
-use Rattle.shapes.specs.Checks.{Check, unless, all, on, at, forEach, each, values, eachMember, isObject, isString, isNumber, isArray, isSome, needs, text, numeral}
+use Rattle.shapes.specs.Checks.{Check, unless, all, at, forEach, each, values, eachMember, isObject, isString, isNumber, isArray, isSome, needs, text, numeral}
 use Rattle.shapes.specs.Shapes.{isIntegerValue}
 use Rattle.shapes.specs.Says.{Needs}
 
@@ -37,10 +35,6 @@ pub least-mix : (b : ℕ) (p q r s : List ℕ) → least b ((p ++ q) ++ (r ++ s)
 least-mix b p q r s = simp least-++ (ap (λ (m : ℕ). least m s) (least-turn (least b p) q r))
 
 -- the least fault, check by check
-pub least-all : (b : ℕ) (c : Check) (cs : List Check) (v : Json) → least b (all (c ∷ cs) v) ≡ least (least b (c v)) (all cs v)
-unfolding all
-least-all b c cs v = least-++ b (c v) (all cs v)
-
 pub least-forEach : (b : ℕ) (c : Check) (v : Json) (vs : List Json) → least b (forEach c (v ∷ vs)) ≡ least (least b (c v)) (forEach c vs)
 unfolding forEach
 least-forEach b c v vs = least-++ b (c v) (forEach c vs)
@@ -62,10 +56,6 @@ pub least-each-++ : (b : ℕ) (c d : Check) (v : Json) → least b (each (λ w. 
 unfolding each
 least-each-++ b c d v = least-forEach-++ b c d (elements v)
 
-pub least-eachMember-++ : (b : ℕ) (c d : Check) (v : Json) → least b (eachMember (λ w. c w ++ d w) v) ≡ least b (eachMember c v ++ eachMember d v)
-unfolding eachMember
-least-eachMember-++ b c d v = least-forEach-++ b c d (values (members v))
-
 -- a value that is no array has no faults in its elements, and one that is no object none in its members
 pub each-none : (c : Check) (v : Json) → isArrayValue v ≡ false → each c v ≡ []
 unfolding each forEach
@@ -74,10 +64,6 @@ each-none c v e = ap (forEach c) (no-elements v e)
 pub eachMember-none : (c : Check) (v : Json) → isObjectValue v ≡ false → eachMember c v ≡ []
 unfolding eachMember forEach values
 eachMember-none c v e = ap (λ ms. forEach c (values ms)) (no-members v e)
-
-pub at-none : (name : String) (c : Check) (v : Json) → isObjectValue v ≡ false → at name c v ≡ []
-unfolding at on find firstNamed
-at-none name c v e = ap (λ ms. on c (firstNamed (ascii name) ms)) (no-members v e)
 
 pub least-none : {b : ℕ} {xs : List ℕ} → xs ≡ [] → b ≡ least b xs
 unfolding least
@@ -132,22 +118,6 @@ module _ {x t : List ℕ} {i : ℕ} where
   pub all-then : (best m : ℕ) (c : Check) (cs : List Check) {r : ℕ} → Gives (λ v. least best (c v)) x t i m → Gives (λ v. least m (all cs v)) x t i r → Gives (λ v. least best (all (c ∷ cs) v)) x t i r
   unfolding all
   all-then best m c cs g h = gives-then best m c (all cs) g h
-
-  -- the check of the member that a search for its name found
-  module _ (best : ℕ) (name : String) (c : Check) {found : Found} (f : Seeks (λ v. find name v) x t i found) where
-    pub at-found : {k r : ℕ} → found ≡ At k → Gives (λ v. least best (c v)) x t k r → Gives (λ v. least best (at name c v)) x t i r
-    unfolding Finds at on
-    at-found {k} {r} e g = record { is = λ v s. go (find name v) (rw e at (f .finds v s)) }
-      where
-        go : (o : Option Json) → Finds x t o (At k) → r ≡ least best (on c o)
-        go o (w, q, z) = rw q (g .is w z)
-
-    pub at-nothing : found ≡ Nothing → Gives (λ v. least best (at name c v)) x t i best
-    unfolding Finds at on least
-    at-nothing e = record { is = λ v s. go (find name v) (rw e at (f .finds v s)) }
-      where
-        go : (o : Option Json) → Finds x t o Nothing → best ≡ least best (on c o)
-        go o q = rw q
 
   -- rule 8, name by name
   pub needs-none : {best : ℕ} → Gives (λ v. least best (needs [] v)) x t i best

@@ -343,6 +343,7 @@ fn leaf(text: &[u8], table: &[u32], i: usize, count: usize, best: u32) -> u32
 }
 
 // Rules 12 and 13 of a boundary: arrays down to the depth, where integers stand, each at least 0 and below the count.
+// The integers of an array are looked at in its own loop, not by a call of this function for each.
 pub fn boundary(text: &[u8], table: &[u32], i: usize, depth: usize, count: usize, best: u32) -> u32
     requires { ⌜ Node (now text) (now table) i ⌝ }
     ensures { λ r. ⌜ Gives (λ v. least best (shape.shaped depth v ++ shape.near count depth v)) (now (text .entry)) (now (table .entry)) i r ⌝ }

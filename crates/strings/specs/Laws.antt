@@ -198,16 +198,6 @@ pub ahead-start : (x : List ℕ) (at end word : ℕ) → ahead x (record { at = 
 unfolding ahead pending
 ahead-start x at end word = refl
 
-length-pending : (n w : ℕ) → length (pending n w) ≡ n
-unfolding pending
-length-pending zero w = refl
-length-pending (suc n) w = ap suc (length-pending n (w / 256))
-
--- a cursor has no more bytes ahead than it is away from its end
-pub ahead-short : (x : List ℕ) (c : Cursor) → c .end ≤ length x → length (ahead x c) ≤ away c
-unfolding ahead away
-ahead-short x c h = omega (arith, length-append (pending (c .left) (c .word)) (decodeAt x (c .at) (c .end)), length-pending (c .left) (c .word), decodeAt-short x (c .at) (c .end) h)
-
 -- places in increasing order, the first at n or later, the last before e
 unfoldable pub Rising : ℕ → ℕ → List ℕ → Type 0
 Rising n e [] = Unit

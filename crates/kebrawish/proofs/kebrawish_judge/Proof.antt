@@ -8,36 +8,28 @@ use borrow.Author.Needs.{needs}
 use Rattle.kebrawish.proofs.kebrawish_judge.Statement.{statement}
 use Rattle.kebrawish.proofs.kebrawish_judge.Tie as tie
 
--- src/lib.rt:175:9
 judge-requires : tie.Need-judge-requires
 judge-requires c κs = search needs
 
--- src/lib.rt:177:27
 enum-known-answer : tie.Need-enum-known-answer
 enum-known-answer c = search needs
 
--- src/lib.rt:177:33
 mul-result : tie.Need-mul-result
 mul-result c = omega (arith, count-small _ _ (of-accepted _ (c .before .before .before .judge .ensures) (c .before .answer .given .1)))
 
--- src/lib.rt:178:26
 enum-known-answer-2 : tie.Need-enum-known-answer-2
 enum-known-answer-2 c = search needs
 
--- src/lib.rt:180:20
 number-of-requires : tie.Need-number-of-requires
 number-of-requires c κs = search needs
 
--- src/lib.rt:180:13
 packed-requires : tie.Need-packed-requires
 packed-requires c κs = (omega (arith, c .number-of .ensures, number-small (c .before .before .answer2 .given .0 .0 .rule)), omega (arith, place-small _ _ _ (of-refused _ (c .before .before .before .before .judge .ensures) (c .before .before .answer2 .given .1))))
 
--- src/lib.rt:171:1
 returns : tie.Need-returns
 unfolding word
 returns c = sym (ap word (of-accepted _ (c .before .before .before .judge .ensures) (c .before .answer .given .1)))
 
--- src/lib.rt:171:1
 returns-2 : tie.Need-returns-2
 returns-2 c = c .packed .ensures ∙ ap word (ap (λ (n : ℕ). refused n (c .before .before .before .answer2 .given .0 .0 .place)) (c .before .number-of .ensures) ∙ sym (of-refused _ (c .before .before .before .before .before .judge .ensures) (c .before .before .before .answer2 .given .1)))
 

@@ -4,15 +4,12 @@ use borrow.Author.Needs.{needs}
 use Rattle.kebrawish.proofs.packed.Statement.{statement}
 use Rattle.kebrawish.proofs.packed.Tie as tie
 
--- src/lib.rt:167:5
 mul-result : tie.Need-mul-result
 mul-result c = search needs
 
--- src/lib.rt:167:5
 add-result : tie.Need-add-result
 add-result c = search needs
 
--- src/lib.rt:163:1
 returns : tie.Need-returns
 unfolding word
 returns c = refl

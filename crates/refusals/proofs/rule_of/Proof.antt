@@ -14,67 +14,54 @@ past a n h k = omega arith
 last : (n : ℕ) → 17 ≤ n → n < 18 → 17 ≡ n
 last n h k = omega arith
 
--- src/lib.rt:46:1
 returns : tie.Need-returns
 unfolding numberOf
 returns c = omega arith
 
--- src/lib.rt:46:1
 returns-2 : tie.Need-returns-2
 unfolding numberOf
 returns-2 c = omega arith
 
--- src/lib.rt:46:1
 returns-3 : tie.Need-returns-3
 unfolding numberOf
 returns-3 c = omega arith
 
--- src/lib.rt:46:1
 returns-4 : tie.Need-returns-4
 unfolding numberOf
 returns-4 c = omega arith
 
--- src/lib.rt:46:1
 returns-5 : tie.Need-returns-5
 unfolding numberOf
 returns-5 c = omega arith
 
--- src/lib.rt:46:1
 returns-6 : tie.Need-returns-6
 unfolding numberOf
 returns-6 c = omega arith
 
--- src/lib.rt:46:1
 returns-7 : tie.Need-returns-7
 unfolding numberOf
 returns-7 c = omega arith
 
--- src/lib.rt:46:1
 returns-8 : tie.Need-returns-8
 unfolding numberOf
 returns-8 c = omega arith
 
--- src/lib.rt:46:1
 returns-9 : tie.Need-returns-9
 unfolding numberOf
 returns-9 c = omega arith
 
--- src/lib.rt:46:1
 returns-10 : tie.Need-returns-10
 unfolding numberOf
 returns-10 c = omega arith
 
--- src/lib.rt:46:1
 returns-11 : tie.Need-returns-11
 unfolding numberOf
 returns-11 c = omega arith
 
--- src/lib.rt:46:1
 returns-12 : tie.Need-returns-12
 unfolding numberOf
 returns-12 c = omega arith
 
--- src/lib.rt:46:1
 returns-13 : tie.Need-returns-13
 unfolding numberOf
 returns-13 c =
