@@ -5,12 +5,12 @@ use mathlib.Core.Path.{_≡_, refl, sym, _∙_}
 use mathlib.Core.Bool.{Bool, true, false, _&&_, _||_}
 use mathlib.Core.List.{List}
 use lib.ListN.{length, getD, set, length-set}
-use lib.Seq.{getD-set-same, getD-set-other}
+use lib.Seq.{getD-set-same, getD-set-other, set-getD}
 use lib.Dec.{eqb}
 use mir.Syntax.{w8}
 use mir.Val.{Fits}
 use borrow.Author.Tests.{eq-eqb, ne-eqb, eqb-true, eqb-false}
-use Rattle.grid.specs.Grid.{bit, holds, Puts}
+use Rattle.grid.specs.Grid.{bit, holds, withBit, withPair, Puts}
 use Rattle.grid.proofs.Bits.{added-fits, added-bit}
 
 -- the bit of a pair, as it is read
@@ -36,8 +36,10 @@ held-if false b t f = refl
 module _ (g : List ℕ) (row column : ℕ) (t : Bool) (q : t ≡ holds g row column) where
   -- a set that has the pair stays as it is
   pub puts-held : t ≡ true → Puts g g row column
+  unfolding withPair withBit holds
   puts-held y =
       record {
+        is = rw (sym q ∙ y, set-getD);
         room = refl;
         has = λ a b m l. held-if (eqb a row) (eqb b column) (holds g a b) (λ h s. rw (eqb-true a row h, eqb-true b column s) (sym q ∙ y));
       }
@@ -63,8 +65,10 @@ module _ (g : List ℕ) (row column : ℕ) (t : Bool) (q : t ≡ holds g row col
       has-if false a b d l = rw (getD-set-other g (row * 128 + column / 8) (a * 128 + b / 8) (getD g (row * 128 + column / 8) 0 + p) 0 (eqb-false _ _ d), apart-if (eqb a row) a b row column (eqb-false _ _ d) refl)
 
       pub puts-set : Puts g (set g (row * 128 + column / 8) (getD g (row * 128 + column / 8) 0 + p)) row column
+      unfolding withPair withBit
       puts-set =
           record {
+            is = rw (unset, e);
             room = simp length-set;
             has = λ a b m l. has-if (eqb (a * 128 + b / 8) (row * 128 + column / 8)) a b refl l;
           }
