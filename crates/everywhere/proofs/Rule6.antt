@@ -19,7 +19,7 @@ use Rattle.json.specs.Laws.{Tree, widths-with, fields-with, MembersLeft, Member
 use Rattle.nodes.specs.Access.{isObjectValue}
 use Rattle.nodes.specs.Faults.{fault, least}
 use Rattle.everywhere.specs.Everywhere.{among, repeated}
-use Rattle.nodes.specs.Laws.{quoted-at, kinds, fieldsOf, object-begin, no-fields, least-++}
+use Rattle.nodes.specs.Laws.{quoted-at, kinds, fieldsOf, object-begin, no-fields, least-++, fresh-zero, fresh-length}
 use Rattle.everywhere.specs.Parts.{Part, value, Stands, of-value, of-name, own6, AnyPart, PartGives, earlier, textAt, NameNode, Repeats, RepeatGives}
 use Rattle.everywhere.specs.Chains.{Chains, ChainAt, ChainGives, LongObject}
 use Rattle.everywhere.proofs.Links.{chains-begin}
@@ -225,16 +225,10 @@ pub record Threads (x t ls hs : List ℕ) (i first n b₀ k b : ℕ) : Type 0 wh
   pub links : length ls ≡ 32784
   heads : length hs ≡ 4096
 
--- an array that was just made
-pub zero-at : (c n : ℕ) → _≡_ {A = ℕ} (getD (replicate n 0) c 0) 0
-zero-at c zero = refl
-zero-at zero (suc n) = refl
-zero-at (suc c) (suc n) = zero-at c n
-
 module _ {x t : List ℕ} {i : ℕ} where
   pub thread-begin : {n : ℕ} (b : ℕ) {ls : List ℕ} (hs : List ℕ) → LongObject x t ls i → n ≡ getD t (i + 2) 0 → hs ≡ replicate 4096 0 → Threads x t ls hs i (i + 3) n b (i + 3) b
   thread-begin b {ls} hs d o z =
-      record { sweeps = begin b (d .some) refl (d .brace) o (chains-begin x t ls hs (i + 3) (λ c. ap (λ (l : List ℕ). getD l c 0) z ∙ zero-at c 4096) (omega arith)); few = rw o (d .ends); links = d .links; heads = ap length z ∙ length-replicate {A = ℕ} 4096 0 }
+      record { sweeps = begin b (d .some) refl (d .brace) o (chains-begin x t ls hs (i + 3) (fresh-zero 4096 z) (omega arith)); few = rw o (d .ends); links = d .links; heads = fresh-length 4096 z }
 
   module _ {first n b₀ k b : ℕ} {ls hs : List ℕ} (c : Threads x t ls hs i first n b₀ k b) where
     pub thread-name : k < n → ChainAt x t ls hs k

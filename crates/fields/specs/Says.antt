@@ -3,7 +3,7 @@ use mathlib.Core.Path.{_≡_}
 use mathlib.Core.Bool.{true}
 use mathlib.Core.List.{List}
 use mathlib.Core.Option.{Option}
-use Prim.Native.Nat.{ℕ, _+_, _<_, min}
+use Prim.Native.Nat.{ℕ, _+_, _<_, _≤_, min}
 use Prim.Native.String.{String}
 use lib.ListN.{length, getD}
 use Rattle.words.specs.Words.{codeOf}
@@ -30,8 +30,9 @@ pub record MemberAt (x t : List ℕ) (i : ℕ) (m : Member) : Type 0 where
   pub name : Quoted x t i (m .0 .place) (m .0 .end) (m .0 .raw)
   pub value : Sub x t (i + 3) (m .1)
 
--- the index holds the node of the name of each of the first 1,024 members, in order
+-- the index holds the node of the name of each of the first 1,024 members, in order, and then zeros
 pub record Indexed (x t : List ℕ) (ms : List Member) (index : Index) : Type 0 where
   pub room : length (index .offsets) ≡ 1024
   pub count : index .count ≡ min 1024 (length ms)
   pub each : (k : ℕ) (d : Member) → k < index .count → MemberAt x t (getD (index .offsets) k 0) (getD ms k d)
+  pub rest : (k : ℕ) → index .count ≤ k → getD (index .offsets) k 0 ≡ 0

@@ -16,7 +16,7 @@ use Rattle.everywhere.specs.Chains.{chainOf}
 use Rattle.everywhere.specs.Laws.{other-text}
 use Rattle.everywhere.specs.Parts.{textAt}
 use Rattle.model.specs.Model.{numberOf}
-use Rattle.ids.specs.Says.{TextNode, Offsets, Objects, namesOf, Numbers, headFrom, ChainsFrom, Chains, Puts}
+use Rattle.ids.specs.Says.{TextNode, Offsets, Objects, namesOf, Numbers, headFrom, ChainsFrom, Chains, Fills, Puts}
 use Rattle.ids.proofs.Rules.{ids, name-text, nobody, object-text}
 
 -- ---- the names of the objects
@@ -89,25 +89,34 @@ module _ {us : List (List ℕ)} {heads nexts : List ℕ} {k c : ℕ} (s : Chains
   one-more = record { head = λ a f. head-if a (eqb (chainOf (getD us k [])) a) refl f ∙ sym (head-cons us k h a); next = λ j f g. next-if j (eqb j k) refl f g }
 
 -- The chains of the objects from the k-th on are filled
-pub record Filling (x t offsets : List ℕ) (count : ℕ) (heads nexts : List ℕ) (k : ℕ) : Type 0 where
+pub record Filling (x t offsets : List ℕ) (count : ℕ) (nexts₀ heads nexts : List ℕ) (k : ℕ) : Type 0 where
   pub objects : Objects x t offsets count
   pub within : k ≤ count
   pub heads-room : length heads ≡ 4096
   pub nexts-room : length nexts ≡ 1024
   pub is : (ms : List Member) → Offsets x t ms offsets count → ChainsFrom (namesOf ms) heads nexts k
+  pub rest : (j : ℕ) → count ≤ j → getD nexts j 0 ≡ getD nexts₀ j 0
 
 module _ {x t offsets : List ℕ} {count : ℕ} {heads nexts : List ℕ} where
-  pub filling-start : Objects x t offsets count → length heads ≡ 4096 → length nexts ≡ 1024 → ((c : ℕ) → getD heads c 0 ≡ 0) → Filling x t offsets count heads nexts count
-  filling-start o h n z = record { objects = o; within = omega arith; heads-room = h; nexts-room = n; is = λ ms s. rw (← names-all s) (none-yet (namesOf ms) heads nexts z) }
+  pub filling-start : Objects x t offsets count → length heads ≡ 4096 → length nexts ≡ 1024 → ((c : ℕ) → getD heads c 0 ≡ 0) → Filling x t offsets count nexts heads nexts count
+  filling-start o h n z =
+      record {
+        objects = o;
+        within = omega arith;
+        heads-room = h;
+        nexts-room = n;
+        is = λ ms s. rw (← names-all s) (none-yet (namesOf ms) heads nexts z);
+        rest = λ j l. refl;
+      }
 
-  module _ {k : ℕ} (f : Filling x t offsets count heads nexts k) where
+  module _ {nexts₀ : List ℕ} {k : ℕ} (f : Filling x t offsets count nexts₀ heads nexts k) where
     pub filling-few : 0 < k → k - 1 < 1024
     filling-few l = omega (arith, f .within, f .objects .stand .few)
 
     pub filling-text : 0 < k → TextNode x t (getD offsets (k - 1) 0)
     filling-text l = object-text (f .objects) (omega (arith, f .within))
 
-    pub filling-turn : {heads′ nexts′ : List ℕ} → 0 < k → Puts x t (getD offsets (k - 1) 0) (k - 1) heads nexts heads′ nexts′ → Filling x t offsets count heads′ nexts′ (k - 1)
+    pub filling-turn : {heads′ nexts′ : List ℕ} → 0 < k → Puts x t (getD offsets (k - 1) 0) (k - 1) heads nexts heads′ nexts′ → Filling x t offsets count nexts₀ heads′ nexts′ (k - 1)
     filling-turn {heads′} {nexts′} l p =
         let j = k - 1 in
         let z : k ≡ j + 1 = omega arith in
@@ -120,10 +129,13 @@ module _ {x t offsets : List ℕ} {count : ℕ} {heads nexts : List ℕ} where
           is = λ ms o.
               rw (p .heads-are, p .nexts-are)
               (one-more {heads = heads} {nexts = nexts} (rw (← z) (f .is ms o)) (omega (arith, names-all o, f .within)) (ap chainOf (sym (name-is o (omega (arith, f .within))))) (p .low) (f .heads-room) (omega (arith, f .within, f .objects .stand .few, f .nexts-room)));
+          rest = λ i m. rw (p .nexts-are) (getD-set-other nexts j i (getD heads c 0) 0 (λ q. omega (arith, f .within)) ∙ f .rest i m);
         }
 
-    pub filling-done : k ≤ 0 → Chains x t offsets count heads nexts
-    filling-done h = let z : k ≡ 0 = omega arith in record { heads-room = f .heads-room; nexts-room = f .nexts-room; is = λ ms o. rw (← z) (f .is ms o) }
+    pub filling-done : k ≤ 0 → Fills x t offsets count nexts₀ heads nexts
+    filling-done h =
+        let z : k ≡ 0 = omega arith in
+        record { chains = record { heads-room = f .heads-room; nexts-room = f .nexts-room; is = λ ms o. rw (← z) (f .is ms o) }; rest = f .rest }
 
 -- ---- following one
 

@@ -4,7 +4,7 @@ use native.Mathlib.Omega.{arith}
 use mathlib.Core.Path.{_≡_, sym, ap, _∙_}
 use mathlib.Core.Bool.{Bool, true, false, not}
 use mathlib.Core.List.{List, []}
-use lib.ListN.{length, getD, replicate, length-replicate}
+use lib.ListN.{length, getD}
 use borrow.Author.Tests.{not-false}
 use borrow.Author.Needs.{needs}
 use mir.Val.{Fits}
@@ -18,7 +18,6 @@ use Rattle.json.specs.Laws.{words}
 use Rattle.nodes.specs.Access.{isStringValue, textOf, nameOf, Member}
 use Rattle.nodes.specs.Laws.{rawOf, string-at, text-at, quoted-at}
 use Rattle.everywhere.specs.Parts.{textAt}
-use Rattle.everywhere.proofs.Rule6.{zero-at}
 use Rattle.nodes.specs.Says.{Node, Gives}
 use Rattle.fields.specs.Says.{MemberAt}
 use Rattle.ids.specs.Says.{TextNode, Objects, MemberNode}
@@ -90,14 +89,5 @@ member-text d = of-member (d .stands)
 
 pub member-onward : {x t : List ℕ} {i : ℕ} → MemberNode x t i → length t * 4 < 2 ^ 63 → Fits w64 (i + 3)
 member-onward d h = let w = words (d .stands .value) in record { fits = omega (arith, w .room) }
-
--- ---- an array that was just made
-
-module _ {l : List ℕ} (n : ℕ) (q : l ≡ replicate n 0) where
-  pub fresh-zero : (c : ℕ) → getD l c 0 ≡ 0
-  fresh-zero c = ap (λ (a : List ℕ). getD a c 0) q ∙ zero-at c n
-
-  pub fresh-length : length l ≡ n
-  fresh-length = ap length q ∙ length-replicate {A = ℕ} n 0
 
 pub ruleset ids = (needs, text-first, text-second, text-some, text-fits, text-span, of-string, of-member, same-told, object-node, object-text, object-few, object-value, member-text, member-onward)

@@ -58,6 +58,11 @@ pub record Chains (x t offsets : List ℕ) (count : ℕ) (heads nexts : List ℕ
   pub nexts-room : length nexts ≡ 1024
   pub is : (ms : List Member) → Offsets x t ms offsets count → ChainsFrom (namesOf ms) heads nexts 0
 
+-- the chains were filled, and nexts, which was nexts₀, is as before past the objects
+pub record Fills (x t offsets : List ℕ) (count : ℕ) (nexts₀ heads nexts : List ℕ) : Type 0 where
+  pub chains : Chains x t offsets count heads nexts
+  pub rest : (j : ℕ) → count ≤ j → getD nexts j 0 ≡ getD nexts₀ j 0
+
 -- the object of number k, whose name stands at the node `own`, was put at the head of its chain
 pub record Puts (x t : List ℕ) (own k : ℕ) (heads nexts heads′ nexts′ : List ℕ) : Type 0 where
   pub low : chainOf (textAt x t own) < 4096

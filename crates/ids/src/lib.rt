@@ -5,10 +5,10 @@ ghost use lib.ListN.{length, getD};
 ghost use Rattle.utf8.specs.Utf8 as utf8;
 ghost use Rattle.everywhere.specs.Chains.{chainOf};
 ghost use Rattle.everywhere.specs.Parts.{textAt};
-ghost use Rattle.ids.specs.Says.{TextNode, Objects, Puts, Chains, Numbers};
+ghost use Rattle.ids.specs.Says.{TextNode, Objects, Puts, Chains, Fills, Numbers};
 
 // Do the strings or names at two nodes stand for the same text?
-pub fn same(text: &[u8], table: &[u32], i: usize, j: usize) -> bool
+fn same(text: &[u8], table: &[u32], i: usize, j: usize) -> bool
     requires { ⌜ (TextNode (now text) (now table) i) × (TextNode (now text) (now table) j) ⌝ }
     ensures { λ r. ⌜ r ≡ utf8.same (textAt (now (text .entry)) (now (table .entry)) i) (textAt (now (text .entry)) (now (table .entry)) j) ⌝ }
 {
@@ -64,7 +64,7 @@ pub fn fill(
     nexts: &mut [u16; 1024],
 )
     requires { ⌜ (Objects (now text) (now table) (now offsets) count) × (length (now heads) ≡ 4096) × (length (now nexts) ≡ 1024) × ((c : ℕ) → getD (now heads) c 0 ≡ 0) ⌝ }
-    ensures { λ r. ⌜ Chains (now (text .entry)) (now (table .entry)) (now (offsets .entry)) count (now (heads .exit)) (now (nexts .exit)) ⌝ }
+    ensures { λ r. ⌜ Fills (now (text .entry)) (now (table .entry)) (now (offsets .entry)) count (now (nexts .entry)) (now (heads .exit)) (now (nexts .exit)) ⌝ }
 {
     let mut k = count;
     while k > 0 {

@@ -16,7 +16,7 @@ use Rattle.model.specs.Model.{numberOf}
 use Rattle.nodes.specs.Access.{Member}
 use Rattle.everywhere.specs.Parts.{textAt}
 use Rattle.ids.specs.Says.{Offsets, Numbers, namesOf}
-use Rattle.ids.proofs.Rules.{fresh-zero, fresh-length}
+use Rattle.nodes.specs.Laws.{fresh-zero, fresh-length}
 use Rattle.ids.proofs.Chains.{names-all}
 use Rattle.links.specs.Says.{Numbered, Kept}
 

@@ -19,7 +19,7 @@ use Rattle.nodes.specs.Says.{Sought, Seeks}
 use Rattle.nodes.specs.declared.Found.{Found}
 use Rattle.nodes.specs.declared.Found.the-variants.{At, Nothing}
 use Rattle.fields.specs.Laws.{at-node}
-use Rattle.ids.proofs.Rules.{fresh-length}
+use Rattle.nodes.specs.Laws.{fresh-length}
 use Rattle.links.specs.Says.{toldOf, Below, NotedTo, Notes}
 
 -- ---- one note

@@ -9,7 +9,8 @@ use Rattle.nodes.specs.Says.{Node}
 use Rattle.shapes.specs.Laws.{checking}
 use Rattle.fields.specs.Laws.{at-node, sought-in}
 use Rattle.ids.specs.Says.{Objects, Chains}
-use Rattle.ids.proofs.Rules.{ids, object-node, object-value, fresh-zero, fresh-length}
+use Rattle.nodes.specs.Laws.{fresh-zero, fresh-length}
+use Rattle.ids.proofs.Rules.{ids, object-node, object-value}
 use Rattle.links.specs.Says.{Numbered, Empty}
 use Rattle.links.proofs.Memo.{number-fits, number-short, kept-room, kept-put, kept-told}
 use Rattle.links.proofs.Noting.{notes-all}

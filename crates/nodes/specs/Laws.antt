@@ -2,9 +2,9 @@
 use mathlib.Core.Path.{_≡_, refl, sym, ap, _∙_}
 use mathlib.Core.Bool.{true, false}
 use mathlib.Core.List.{List, [], _∷_, _++_, append-nil}
-use Prim.Native.Nat.{ℕ, _+_, _-_, _<_, _≤_, min}
+use Prim.Native.Nat.{ℕ, zero, suc, _+_, _-_, _<_, _≤_, min}
 use native.Mathlib.Omega.{arith}
-use lib.ListN.{length, getD}
+use lib.ListN.{length, getD, replicate, length-replicate}
 use lib.Seq.{slice}
 use lib.Dec.{eqb}
 use borrow.Author.Tests.{ne-eqb}
@@ -206,3 +206,17 @@ pub least-le : (b : ℕ) (xs : List ℕ) → least b xs ≤ b
 unfolding least
 least-le b [] = omega arith
 least-le b (f ∷ xs) = omega (arith, least-le (min b f) xs)
+
+-- ---- an array that was just made
+
+zero-at : (c n : ℕ) → _≡_ {A = ℕ} (getD (replicate n 0) c 0) 0
+zero-at c zero = refl
+zero-at zero (suc n) = refl
+zero-at (suc c) (suc n) = zero-at c n
+
+module _ {l : List ℕ} (n : ℕ) (q : l ≡ replicate n 0) where
+  pub fresh-zero : (c : ℕ) → getD l c 0 ≡ 0
+  fresh-zero c = ap (λ (a : List ℕ). getD a c 0) q ∙ zero-at c n
+
+  pub fresh-length : length l ≡ n
+  fresh-length = ap length q ∙ length-replicate {A = ℕ} n 0

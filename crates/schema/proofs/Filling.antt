@@ -8,7 +8,7 @@ use mathlib.Core.Bool.{Bool, true, false, not}
 use mathlib.Core.Option.{Option, none}
 use borrow.Author.Tests.{not-true, not-false}
 use mathlib.Core.List.{List, [], _∷_, _++_, append-assoc, append-nil}
-use lib.ListN.{length, getD, set, drop, length-append, length-set, List·getD-append, drop-of-length-le}
+use lib.ListN.{length, getD, set, drop, replicate, length-append, length-set, List·getD-append, drop-of-length-le}
 use lib.Seq.{drop-at, getD-set-same, getD-set-other, getD-append-seam}
 use Rattle.json.specs.Tree.{Json}
 use Rattle.json.specs.Table.{Sub}
@@ -16,7 +16,7 @@ use Rattle.json.specs.Laws.{MembersLeft, MemberPast, member-past, member-over, 
 use Rattle.nodes.specs.Access.{isObjectValue, Member, pairs, members, find}
 use Rattle.nodes.specs.Says.{Node, Gives, GivesFound, Finds, Seeks}
 use Rattle.nodes.specs.Faults.{fault, least}
-use Rattle.nodes.specs.Laws.{StringAt, quoted-at, quoted-place, fields-begin, no-members}
+use Rattle.nodes.specs.Laws.{StringAt, quoted-at, quoted-place, fields-begin, no-members, fresh-zero, fresh-length}
 use Rattle.nodes.specs.declared.Found.{Found}
 use Rattle.nodes.specs.declared.Found.the-variants.{At, Nothing}
 use Rattle.fields.specs.Says.{MemberAt, Indexed}
@@ -42,22 +42,26 @@ pub record Filling (x t : List ℕ) (i n k : ℕ) (offsets : List ℕ) (count : 
   pub room : length offsets ≡ 1024
   pub few : count ≤ 1024
   pub left : (v : Json) → Sub x t i v → Done x t offsets n k count v
+  pub clear : (j : ℕ) → count ≤ j → getD offsets j 0 ≡ 0
 
 -- members that the index names, before one more
 front : (x t offsets : List ℕ) (count : ℕ) (l done : List Member) (m : Member) (rest : List Member) → l ≡ done ++ m ∷ rest → length done ≡ count → count ≡ 1024 → length offsets ≡ 1024
-    → ((j : ℕ) (d : Member) → j < count → MemberAt x t (getD offsets j 0) (getD done j d)) → Indexed x t l (record { offsets = offsets; count = count })
-front x t offsets count l done m rest e many h room each = record {
+    → ((j : ℕ) (d : Member) → j < count → MemberAt x t (getD offsets j 0) (getD done j d)) → ((j : ℕ) → count ≤ j → getD offsets j 0 ≡ 0)
+    → Indexed x t l (record { offsets = offsets; count = count })
+front x t offsets count l done m rest e many h room each clear = record {
   room = room;
   count = omega (arith, ap length e, length-append done (m ∷ rest));
   each = λ j d r. rw (e, List·getD-append done (m ∷ rest) d j (omega arith)) (each j d r);
+  rest = clear;
 }
 
-pub fill-begin : {x t : List ℕ} {i n : ℕ} (offsets : List ℕ) → length offsets ≡ 1024 → ObjectNode x t i → n ≡ getD t (i + 2) 0 → Filling x t i n (i + 3) offsets 0
+pub fill-begin : {x t : List ℕ} {i n : ℕ} (offsets : List ℕ) → offsets ≡ replicate 1024 0 → ObjectNode x t i → n ≡ getD t (i + 2) 0 → Filling x t i n (i + 3) offsets 0
 fill-begin offsets l d q = record {
   node = d .node;
-  room = l;
+  room = fresh-length 1024 l;
   few = omega arith;
   left = λ v s. record { done = []; left = rw q (fields-begin (λ ms. members v ≡ [] ++ ms) s (sym (d .is .is v s)) refl); many = refl; each = λ j e h. absurd (omega arith) };
+  clear = λ j h. fresh-zero 1024 l j;
 }
 
 module _ {x t : List ℕ} {i n k : ℕ} {offsets : List ℕ} {count : ℕ} (f : Filling x t i n k offsets count) where
@@ -78,6 +82,7 @@ module _ {x t : List ℕ} {i n k : ℕ} {offsets : List ℕ} {count : ℕ} (f : 
     room = length-set offsets count k ∙ f .room;
     few = omega (arith, f .few);
     left = λ v s. one v s (f .left v s);
+    clear = λ j r. getD-set-other offsets count j k 0 (λ y. omega arith) ∙ f .clear j (omega arith);
   }
     where
       one : (v : Json) → Sub x t i v → Done x t offsets n k count v → Done x t (set offsets count k) n m (count + 1) v
@@ -106,7 +111,7 @@ module _ {x t : List ℕ} {i n k : ℕ} {offsets : List ℕ} {count : ℕ} (f : 
   fill-stop l h = record { indexed = λ v s. all v (f .left v s); more = λ v s. next v (f .left v s) }
     where
       all : (v : Json) → Done x t offsets n k count v → Indexed x t (members v) (record { offsets = offsets; count = count })
-      all v d = let u = member-past (d .left) l in front x t offsets count (members v) (d .done) (u .key, u .value) (pairs (u .others)) (u .holds) (d .many) h (f .room) (d .each)
+      all v d = let u = member-past (d .left) l in front x t offsets count (members v) (d .done) (u .key, u .value) (pairs (u .others)) (u .holds) (d .many) h (f .room) (d .each) (f .clear)
 
       next : (v : Json) → Done x t offsets n k count v → Extra x t (drop 1024 (members v)) (At k)
       next v d =
@@ -123,7 +128,7 @@ module _ {x t : List ℕ} {i n k : ℕ} {offsets : List ℕ} {count : ℕ} (f : 
       whole v d = members-ended (d .left) l ∙ append-nil (d .done)
 
       all : (v : Json) → Done x t offsets n k count v → Indexed x t (members v) (record { offsets = offsets; count = count })
-      all v d = record { room = f .room; count = omega (arith, ap length (whole v d), d .many, f .few); each = λ j e r. rw (whole v d) (d .each j e r) }
+      all v d = record { room = f .room; count = omega (arith, ap length (whole v d), d .many, f .few); each = λ j e r. rw (whole v d) (d .each j e r); rest = f .clear }
 
       next : (v : Json) → Done x t offsets n k count v → Extra x t (drop 1024 (members v)) Nothing
       next v d = drop-of-length-le (members v) {i = 1024} (omega (arith, ap length (whole v d), d .many, f .few))
@@ -155,14 +160,14 @@ one-more x t best e q g h ms d =
 -- ---- the city objects
 
 -- no members have an empty index
-none-indexed : (x t : List ℕ) (l : List Member) (offsets : List ℕ) → length offsets ≡ 1024 → l ≡ [] → Indexed x t l (record { offsets = offsets; count = 0 })
-none-indexed x t l offsets h e = record { room = h; count = rw e; each = λ k d r. absurd (omega arith) }
+none-indexed : (x t : List ℕ) (l : List Member) (offsets : List ℕ) → offsets ≡ replicate 1024 0 → l ≡ [] → Indexed x t l (record { offsets = offsets; count = 0 })
+none-indexed x t l offsets h e = record { room = fresh-length 1024 h; count = rw e; each = λ k d r. absurd (omega arith); rest = λ k r. fresh-zero 1024 h k }
 
-pub nothing-indexed : {x t : List ℕ} {found : Found} (offsets : List ℕ) → length offsets ≡ 1024 → found ≡ Nothing → IndexedFound x t found (record { offsets = offsets; count = 0 })
+pub nothing-indexed : {x t : List ℕ} {found : Found} (offsets : List ℕ) → offsets ≡ replicate 1024 0 → found ≡ Nothing → IndexedFound x t found (record { offsets = offsets; count = 0 })
 unfolding Finds membersIn
 nothing-indexed {x} {t} offsets h e = record { is = λ o f. let z : o ≡ none = subst (Finds x t o) e f in none-indexed x t (membersIn o) offsets h (ap membersIn z) }
 
-pub other-indexed : {x t : List ℕ} {found : Found} {k : ℕ} {b : Bool} (offsets : List ℕ) → length offsets ≡ 1024 → found ≡ At k → Gives isObjectValue x t k b → not b ≡ true → IndexedFound x t found (record { offsets = offsets; count = 0 })
+pub other-indexed : {x t : List ℕ} {found : Found} {k : ℕ} {b : Bool} (offsets : List ℕ) → offsets ≡ replicate 1024 0 → found ≡ At k → Gives isObjectValue x t k b → not b ≡ true → IndexedFound x t found (record { offsets = offsets; count = 0 })
 unfolding Finds membersIn
 other-indexed {x} {t} {b = b} offsets h e g n = record { is = λ o f. let (v, p, s) : Finds x t o (At _) = subst (Finds x t o) e f in none-indexed x t (membersIn o) offsets h (ap membersIn p ∙ no-members v (sym (g .is v s) ∙ not-true b n)) }
 

@@ -2,7 +2,7 @@
 use mathlib.Core.Path.{refl}
 use Rattle.utf8.specs.Ascii.{ascii}
 use Rattle.shapes.specs.Laws.{seeks-find}
-use Rattle.ids.proofs.Rules.{fresh-zero, fresh-length}
+use Rattle.nodes.specs.Laws.{fresh-zero, fresh-length}
 use Rattle.records.proofs.Members.{has-at, has-found}
 use Rattle.records.proofs.Whole.{root-transform, root-vertices, root-placed, sheet-wrote}
 use Rattle.records.proofs.Rules.{records}
@@ -29,7 +29,7 @@ fill-requires : tie.Need-fill-requires
 fill-requires c κs = (root-placed (c .before .before .before .before .before .before .before .before .before .before .before .before .before .before .before .before .before .before .before .before .before .before .before .before .before .pre) .objects, fresh-length 4096 refl, fresh-length 1024 refl, fresh-zero 4096 refl)
 
 objects-requires : tie.Need-objects-requires
-objects-requires c κs = (root-placed (c .before .before .before .before .before .before .before .before .before .before .before .before .before .before .before .before .before .before .before .before .before .before .before .before .before .before .before .before .before .before .pre), c .before .before .before .before .fill .ensures)
+objects-requires c κs = (root-placed (c .before .before .before .before .before .before .before .before .before .before .before .before .before .before .before .before .before .before .before .before .before .before .before .before .before .before .before .before .before .before .pre), c .before .before .before .before .fill .ensures .chains)
 
 returns-3 : tie.Need-returns-3
 unfolding ascii
