@@ -35,7 +35,7 @@ told-from : (x t₀ t : List ℕ) (m m′ : Mode) (at at′ levels levels′ mos
     → Told x t₀ t m′ at′ levels′ most′ n r → Told x t₀ t m at levels most n r
 unfolding Told
 told-from x t₀ t m m′ at at′ levels levels′ most most′ n (walk.Read e k) f g l d h =
-    record { value = h .value; stands = h .stands; ends = h .ends; goes = λ ks z. f ks z ∙ h .goes ks (g (length ks) z); more = omega (arith, h .more); inside = h .inside; fits = omega (arith, h .fits); long = h .long; below = h .below }
+    record { value = h .value; stands = h .stands; ends = h .ends; goes = λ ks z. f ks z ∙ h .goes ks (g (length ks) z); more = omega (arith, h .more); inside = h .inside; fits = omega (arith, h .fits); long = h .long; below = h .below; above = h .above }
 told-from x t₀ t m m′ at at′ levels levels′ most most′ n (walk.Bad q) f g l d h = λ ks z. f ks z ∙ h ks (g (length ks) z)
 told-from x t₀ t m m′ at at′ levels levels′ most most′ n (walk.Deep q) f g l d h = λ ks z. f ks z ∙ h ks (g (length ks) z)
 
@@ -58,6 +58,7 @@ leaf-read {t} {n} k g h =
       fits = omega (arith, g .fits, k .low, f .more, h .width);
       long = w .long;
       below = w .below;
+      above = λ y z. w .above y (omega (arith, h .width));
     }
 
 -- an element that `digits_end` found
@@ -124,7 +125,7 @@ module _ {x : List ℕ} {at i : ℕ} (k : Skips blanks isBlank x at i) where
         told-from x t₀ t want (name0 i) at (i + 1) levels (levels - 1) 32 31 n r (λ ks e. k .stays .same want tt ks ∙ moves x want ks i (name0 i) ks l (open-object 32 x i _ b ks (omega arith))) (λ j e. omega arith) (omega arith) (omega arith) h
 
 -- Inside a container that the byte b at the offset at opened: from the mode m after it, the machine comes to the mode m′ at i, with f of the stack open;
--- k is the first free word, with slack s; the words before the container's are as they were in t₀
+-- k is the first free word, with slack s; the words before the container's, and from k on, are as they were in t₀
 pub record Level (b : ℕ) (m : Mode) (x t₀ t : List ℕ) (at levels n i k : ℕ) (m′ : Mode) (f : List Frame → List Frame) (s : ℕ) : Type 0 where
   pub opened : Opened b x t₀ at levels n
   pub past : at < i
@@ -133,6 +134,7 @@ pub record Level (b : ℕ) (m : Mode) (x t₀ t : List ℕ) (at levels n i k : �
   pub fits : 2 * k + 3 * levels ≤ 3 * i + s
   pub long : length t ≡ length t₀
   pub below : (j : ℕ) → j < n → getD t j 0 ≡ getD t₀ j 0
+  pub above : (j : ℕ) → k ≤ j → getD t j 0 ≡ getD t₀ j 0
   pub goes : (ks : List Frame) → length ks + levels ≡ 31 → from x m ks (at + 1) ≡ from x m′ (f ks) i
 
 module _ {b : ℕ} {x t₀ : List ℕ} {at levels n i : ℕ} (o : Opened b x t₀ at levels n) (k : Skips blanks isBlank x (at + 1) i) where
@@ -140,7 +142,7 @@ module _ {b : ℕ} {x t₀ : List ℕ} {at levels n i : ℕ} (o : Opened b x t�
   pub enters : (m : Mode) → T (blanks m) → Level b m x t₀ t₀ at levels n i (n + 3) m (λ ks. ks) 96
   enters m h =
       let r = o .ready in
-      record { opened = o; past = omega (arith, k .stays .low); high = k .stays .high; after = omega arith; fits = omega (arith, r .fits, k .stays .low); long = refl; below = λ j l. refl; goes = λ ks z. k .stays .same m h ks }
+      record { opened = o; past = omega (arith, k .stays .low); high = k .stays .high; after = omega arith; fits = omega (arith, r .fits, k .stays .low); long = refl; below = λ j l. refl; above = λ j l. refl; goes = λ ks z. k .stays .same m h ks }
 
 module _ {b : ℕ} {m : Mode} {x t₀ t : List ℕ} {at levels n i k : ℕ} {m′ : Mode} {f : List Frame → List Frame} {s : ℕ} (l : Level b m x t₀ t at levels n i k m′ f s) where
   level-out : (t′ : List ℕ) → length x ≤ i → ((ks : List Frame) → finish 32 x m′ (f ks) i ≡ bad i) → Told x t₀ t′ m (at + 1) levels 31 n (walk.Bad i)
@@ -152,10 +154,10 @@ module _ {b : ℕ} {m : Mode} {x t₀ t : List ℕ} {at levels n i k : ℕ} {m�
   level-dies t′ h e = λ ks z. l .goes ks z ∙ dies x m′ (f ks) i h (e ks)
 
   level-blank : {j : ℕ} → T (blanks m′) → Skips blanks isBlank x i j → Level b m x t₀ t at levels n j k m′ f s
-  level-blank h q = record { opened = l .opened; past = omega (arith, l .past, q .stays .low); high = q .stays .high; after = l .after; fits = omega (arith, l .fits, q .stays .low); long = l .long; below = l .below; goes = λ ks z. l .goes ks z ∙ q .stays .same m′ h (f ks) }
+  level-blank h q = record { opened = l .opened; past = omega (arith, l .past, q .stays .low); high = q .stays .high; after = l .after; fits = omega (arith, l .fits, q .stays .low); long = l .long; below = l .below; above = l .above; goes = λ ks z. l .goes ks z ∙ q .stays .same m′ h (f ks) }
 
   level-looks : (m″ : Mode) (g : List Frame → List Frame) → i < length x → ((ks : List Frame) → step 32 x m′ (f ks) i (getD x i 0) ≡ step 32 x m″ (g ks) i (getD x i 0)) → Level b m x t₀ t at levels n i k m″ g s
-  level-looks m″ g h e = record { opened = l .opened; past = l .past; high = l .high; after = l .after; fits = l .fits; long = l .long; below = l .below; goes = λ ks z. l .goes ks z ∙ alike x m′ (f ks) i m″ (g ks) h (e ks) }
+  level-looks m″ g h e = record { opened = l .opened; past = l .past; high = l .high; after = l .after; fits = l .fits; long = l .long; below = l .below; above = l .above; goes = λ ks z. l .goes ks z ∙ alike x m′ (f ks) i m″ (g ks) h (e ks) }
 
   level-ready : s ≤ 96 → Ready x t i levels 32 k
   level-ready h = let r = l .opened .ready in record { texts = r .texts; words = omega (arith, r .words, l .long); high = l .high; most32 = omega arith; fits = omega (arith, l .fits) }
@@ -178,10 +180,11 @@ module _ {b : ℕ} {m : Mode} {x t₀ t : List ℕ} {at levels n i k : ℕ} {m�
     fits = omega (arith, l .fits);
     long = w .long ∙ l .long;
     below = λ j z. w .below j z ∙ l .below j z;
+    above = λ j z. w .above j (omega (arith, l .after)) ∙ l .above j z;
   }
 
   level-byte : (m″ : Mode) (g : List Frame → List Frame) → s ≤ 99 → i < length x → ((ks : List Frame) → step 32 x m′ (f ks) i (getD x i 0) ≡ go m″ (g ks)) → Level b m x t₀ t at levels n (i + 1) k m″ g 96
-  level-byte m″ g d h e = record { opened = l .opened; past = omega (arith, l .past); high = omega arith; after = l .after; fits = omega (arith, l .fits); long = l .long; below = l .below; goes = λ ks z. l .goes ks z ∙ moves x m′ (f ks) i m″ (g ks) h (e ks) }
+  level-byte m″ g d h e = record { opened = l .opened; past = omega (arith, l .past); high = omega arith; after = l .after; fits = omega (arith, l .fits); long = l .long; below = l .below; above = l .above; goes = λ ks z. l .goes ks z ∙ moves x m′ (f ks) i m″ (g ks) h (e ks) }
 
 -- a value inside
 module _ {b : ℕ} {m : Mode} {x t₀ t₁ : List ℕ} {at levels n i k : ℕ} {f : List Frame → List Frame} (t₂ : List ℕ) (l : Level b m x t₀ t₁ at levels n i k want f 96) (o : (ks : List Frame) → length (f ks) ≡ length ks + 1) where
@@ -194,6 +197,7 @@ module _ {b : ℕ} {m : Mode} {x t₀ t₁ : List ℕ} {at levels n i k : ℕ} {
     fits = omega (arith, r .fits);
     long = r .long ∙ l .long;
     below = λ j z. r .below j (omega (arith, l .after)) ∙ l .below j z;
+    above = λ j z. r .above j z ∙ l .above j (omega (arith, r .ends));
     goes = λ ks z. l .goes ks z ∙ r .goes (f ks) (omega (arith, o ks));
   }
 
@@ -348,6 +352,7 @@ module _ {x t₀ : List ℕ} (t₁ : List ℕ) {at levels n : ℕ} {r : Scan} (g
           fits = omega (arith, u .fits);
           long = u .long ∙ w .long;
           below = λ y z. u .below y (omega arith) ∙ w .below y z;
+          above = λ y z. u .above y z ∙ w .above y (omega (arith, u .ends));
         }
     member-read t₂ (walk.Bad b) u = λ p ms ks z. called .goes p ms ks ∙ u (object p ms (called .key) ∷ ks) (omega arith)
     member-read t₂ (walk.Deep b) u = λ p ms ks z. called .goes p ms ks ∙ u (object p ms (called .key) ∷ ks) (omega arith)
@@ -386,6 +391,7 @@ module _ {x t₀ t₁ : List ℕ} {at levels n i k : ℕ} (g : Fielded x t₀ t�
             fits = omega (arith, v .fits);
             long = v .long ∙ l .long;
             below = λ j z. v .below j (omega (arith, l .after)) ∙ l .below j z;
+            above = λ j z. v .above j z ∙ l .above j (omega (arith, v .ends));
             goes = λ ks z. l .goes ks z ∙ v .goes at (g .members) ks z;
           } in
           record {
@@ -451,15 +457,15 @@ module _ (x t₀ : List ℕ) (short : length x ≤ 65535) (room : 3 * length x +
       unfolding Tells
       parse-whole l =
           let v = told-read r h q in
-          record { value = v .value; short = short; room = room; reads = sym (from-start x) ∙ v .goes [] refl ∙ k .stays .same (got (v .value)) tt [] ∙ at-end x (got (v .value)) [] j l; stands = v .stands; ends = omega (arith, v .ends); long = v .long }
+          record { value = v .value; short = short; room = room; reads = sym (from-start x) ∙ v .goes [] refl ∙ k .stays .same (got (v .value)) tt [] ∙ at-end x (got (v .value)) [] j l; stands = v .stands; ends = omega (arith, v .ends); long = v .long; rest = v .above }
 
-pub parse-long : (x t₀ t : List ℕ) → 65535 < length x → Tells x t₀ t parsed.Long
+pub parse-long : (x t : List ℕ) → 65535 < length x → Tells x t t parsed.Long
 unfolding Tells
-parse-long x t₀ t h = h
+parse-long x t h = (h, refl)
 
-pub parse-short : (x t₀ t : List ℕ) → length x ≤ 65535 → 2 * length t₀ < 3 * length x + 99 → Tells x t₀ t parsed.Short
+pub parse-short : (x t : List ℕ) → length x ≤ 65535 → 2 * length t < 3 * length x + 99 → Tells x t t parsed.Short
 unfolding Tells
-parse-short x t₀ t h l = (h, l)
+parse-short x t h l = (h, l, refl)
 
 -- where a whole text's value ends
 pub told-high : (x t₀ t : List ℕ) (m : Mode) (at levels most n : ℕ) (r : Walk) (e k : ℕ) → Told x t₀ t m at levels most n r → r ≡ walk.Read e k → e ≤ length x

@@ -226,6 +226,7 @@ module _ {x : List ℕ} {at i : ℕ} (k : Skips blanks isBlank x at i) where
               inside = omega arith;
               long = w .long;
               below = w .below;
+              above = w .above;
             }
 
       pub named-at-once : (t₀ t : List ℕ) (n : ℕ) → e < length x → getD x e 0 ≡ 58 → Wrote t₀ t n i e (n + 3) → Names x t₀ t at n (End (e + 1))

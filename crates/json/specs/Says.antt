@@ -251,7 +251,7 @@ pub record Opened (b : ℕ) (x t : List ℕ) (at levels n : ℕ) : Type 0 where
   pub byte : getD x at 0 ≡ b
 
 -- From the mode m at the offset at, with levels left of most, the machine reads a value to before e, whose words stand in the table t from n up to n′;
--- the words before n are as they were in t₀
+-- the others are as they were in t₀
 pub record Read (x t₀ t : List ℕ) (m : Mode) (at levels most n e n′ : ℕ) : Type 0 where
   pub value : Json
   pub stands : Sub x t n value
@@ -262,6 +262,7 @@ pub record Read (x t₀ t : List ℕ) (m : Mode) (at levels most n e n′ : ℕ)
   pub fits : 2 * n′ + 3 * levels ≤ 3 * e + 3 * most + 3
   pub long : length t ≡ length t₀
   pub below : (k : ℕ) → k < n → getD t k 0 ≡ getD t₀ k 0
+  pub above : (k : ℕ) → n′ ≤ k → getD t k 0 ≡ getD t₀ k 0
 
 -- what `value`, `array` and `object` tell: a value was read; or the machine stops at a place, or finds a level too many there
 unfoldable pub Told : List ℕ → List ℕ → List ℕ → Mode → ℕ → ℕ → ℕ → ℕ → Walk → Type 0
@@ -278,6 +279,7 @@ pub record Named (x t₀ t : List ℕ) (at n e : ℕ) : Type 0 where
   pub inside : e ≤ length x
   pub long : length t ≡ length t₀
   pub below : (k : ℕ) → k < n → getD t k 0 ≡ getD t₀ k 0
+  pub above : (k : ℕ) → n + 3 ≤ k → getD t k 0 ≡ getD t₀ k 0
 
 -- what `member_name` tells
 unfoldable pub Names : List ℕ → List ℕ → List ℕ → ℕ → ℕ → Scan → Type 0
@@ -297,6 +299,7 @@ pub record Membered (x t₀ t : List ℕ) (at levels n e k : ℕ) : Type 0 where
   pub fits : 2 * k + 3 * levels ≤ 3 * e + 99
   pub long : length t ≡ length t₀
   pub below : (j : ℕ) → j < n → getD t j 0 ≡ getD t₀ j 0
+  pub above : (j : ℕ) → k ≤ j → getD t j 0 ≡ getD t₀ j 0
 
 -- what `member` tells
 unfoldable pub Member : List ℕ → List ℕ → List ℕ → ℕ → ℕ → ℕ → Walk → Type 0
