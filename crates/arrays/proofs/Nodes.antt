@@ -4,8 +4,7 @@ use native.Mathlib.Omega.{arith}
 use mathlib.Core.Path.{_≡_, refl, sym, ap, _∙_}
 use mathlib.Core.Bool.{Bool, true, false, not}
 use mathlib.Core.List.{List, [], _++_, append-nil}
-use mathlib.Core.Option.{Option, some}
-use mathlib.Core.Option as option
+use mathlib.Core.Logic.{inl}
 use lib.ListN.{length, getD}
 use lib.Seq.{slice}
 use lib.IntN.{ℤ, pos}
@@ -15,20 +14,22 @@ use mir.Facts.{toZ-ofZ}
 use borrow.Author.Needs.{sfits-of}
 use borrow.Author.Tests.{not-true}
 use Rattle.utf8.specs.Laws.{clash}
-use Rattle.numerals.specs.Numerals.{Decimal, pairOf, integer, fits32}
-use Rattle.numerals.specs.Reading.{pairIn, IsWhole, Quick}
-use Rattle.numerals.specs.declared.Numeral.{Numeral}
-use Rattle.numerals.specs.declared.Numeral.the-variants as variant
+use Rattle.numerals.specs.Numerals.{integer, fits32}
+use Rattle.numerals.specs.Reading.{IsWhole, Quick}
 use Rattle.numerals.specs.declared.Whole.{Whole}
 use Rattle.json.specs.Tree.{Json}
 use Rattle.json.specs.Table.{Sub}
 use Rattle.nodes.specs.Access.{isNullValue, isNumberValue, isArrayValue, elements, numeralOf}
 use Rattle.nodes.specs.Says.{Gives}
 use Rattle.nodes.specs.Laws.{NumeralAt, numeral-at, no-elements}
+use Rattle.shapes.specs.Shapes.{orFault, pairOrFault}
+use Rattle.shapes.specs.Says.{pairedAs, GivesPair}
+use Rattle.shapes.specs.declared.Paired.{Paired}
+use Rattle.shapes.specs.declared.Paired.the-variants as paired
 use Rattle.shapes.specs.Laws.{integer-number}
 use Rattle.model.specs.Code.{le, signed, each}
 use Rattle.model.specs.Model.{layThree, layDecimal, layNest, layValue, layValues}
-use Rattle.model.specs.Read.{natural, zeroIfNone, decimalOf, integerOf, indexOf, valueOf, threeOf, nestOf}
+use Rattle.model.specs.Read.{natural, decimalOf, integerOf, indexOf, valueOf, threeOf, nestOf}
 use Rattle.model.specs.Weigh.{decimal-fits}
 use Rattle.sheets.specs.Numbers.{integer-read}
 use Rattle.writer.specs.Writes.{Writes, Skips, twos}
@@ -57,10 +58,6 @@ values-suc zero h v = absurd (h refl)
 values-suc (suc d) h v = let e : suc d - 1 ≡ d = omega arith in rw e (sym (values-parts d v))
 
 module _ {x t : List ℕ} {i : ℕ} where
-  pub pair-number : Holds Pair x t i → Holds Number x t i
-  unfolding Pair Number
-  pair-number h = holds-as (λ v p. p .0) h
-
   pub coordinate-number : Holds Coordinate x t i → Holds Number x t i
   unfolding Coordinate Number
   coordinate-number h = holds-as (λ v p. integer-number v (p .0)) h
@@ -85,25 +82,30 @@ module _ {x t : List ℕ} {i : ℕ} where
     number-inside = omega (arith, numeral (h .node .value) (h .node .stands) .high)
 
   -- a pair
-  module _ (h : Holds Pair x t i) {p e : ℕ} (a : Numeral) (q : p ≡ getD t i 0) (o : e ≡ getD t (i + 1) 0) (m : pairIn a ≡ pairOf (slice p e x)) where
-    paired : (v : Json) → Sub x t i v → pairIn a ≡ some (decimalOf v)
-    paired v s = m ∙ ap pairOf (bytes (pair-number h) q o v s) ∙ pair-read v (h .holds v s) .0
+  pub pair-asked : Holds Pair x t i → Gives isNumberValue x t i true
+  unfolding Pair
+  pair-asked h = record { is = λ v s. sym (h .holds v s .0) }
 
-    pub pair-out : {f : Json → List ℕ} {d₀ d : List ℕ} {to r : ℕ} → a ≡ variant.Out → Wrote f x t i d₀ d to r
-    unfolding pairIn
+  module _ (h : Holds Pair x t i) (a : Paired) (g : GivesPair x t i a) where
+    pair-at : (v : Json) → Sub x t i v → pairedAs a ≡ inl (decimalOf v)
+    unfolding pairOrFault orFault
+    pair-at v s = g .is v s ∙ ap (orFault v) (pair-read v (h .holds v s) .0)
+
+    pub pair-out : {e : ℕ} {f : Json → List ℕ} {d₀ d : List ℕ} {to r : ℕ} → a ≡ paired.Fault e → Wrote f x t i d₀ d to r
+    unfolding pairedAs
     pair-out k = absurd (go (h .node .value) (h .node .stands))
       where
         go : (v : Json) → Sub x t i v → ⊥
-        go v s = let z : _≡_ {A = Option Decimal} option.none (some (decimalOf v)) = rw k at (paired v s) in clash cc
+        go v s = let z = rw k at (pair-at v s) in clash cc
 
-    pub pair-wrote : {n k : ℤ} {b c : ℕ} {d₀ d₁ d₂ : List ℕ} {to r₁ r : ℕ} → a ≡ variant.Pair n k → b ≡ twos (toZ w64 (ofZ w64 n)) → c ≡ twos (toZ w64 (ofZ w64 k)) → Writes (le 8 b) d₀ d₁ to r₁ → Writes (le 2 c) d₁ d₂ r₁ r → Wrote (λ v. layDecimal (decimalOf v)) x t i d₀ d₂ to r
-    unfolding pairIn layDecimal zeroIfNone
+    pub pair-wrote : {n k : ℤ} {b c : ℕ} {d₀ d₁ d₂ : List ℕ} {to r₁ r : ℕ} → a ≡ paired.Pair n k → b ≡ twos (toZ w64 (ofZ w64 n)) → c ≡ twos (toZ w64 (ofZ w64 k)) → Writes (le 8 b) d₀ d₁ to r₁ → Writes (le 2 c) d₁ d₂ r₁ r → Wrote (λ v. layDecimal (decimalOf v)) x t i d₀ d₂ to r
+    unfolding pairedAs layDecimal
     pair-wrote {n} {k} {b} {c} {d₀} {d₁} {d₂} {to} {r₁} {r} w y z u g = record { is = go }
       where
         go : (v : Json) → Sub x t i v → Writes (signed 8 (decimalOf v .m) ++ signed 2 (decimalOf v .e)) d₀ d₂ to r
         go v s =
-            let l : some (record { m = n; e = k }) ≡ some (decimalOf v) = rw w at (paired v s) in
-            let j : record { m = n; e = k } ≡ decimalOf v = ap zeroIfNone l in
+            let l = rw w at (pair-at v s) in
+            let j : record { m = n; e = k } ≡ decimalOf v = cc in
             let f = decimal-fits (decimalOf v) (pair-read v (h .holds v s) .1) in
             let y′ : b ≡ twos (decimalOf v .m) = y ∙ ap twos (ap (λ z. toZ w64 (ofZ w64 z)) (ap (λ q. q .m) j) ∙ toZ-ofZ (sfits-of (omega (arith, f .0)))) in
             let z′ : c ≡ twos (decimalOf v .e) = z ∙ ap twos (ap (λ z. toZ w64 (ofZ w64 z)) (ap (λ q. q .e) j) ∙ toZ-ofZ (sfits-of (omega (arith, f .1)))) in

@@ -8,19 +8,21 @@ ghost use Rattle.nodes.specs.Access.{elements};
 ghost use Rattle.nodes.specs.Says.{Gives};
 ghost use Rattle.arrays.specs.Fits.{Pair, Coordinate, Index, Value, Elements, Triple, Leaves};
 ghost use Rattle.arrays.specs.Says.{Holds, Wrote};
-use numerals::Numeral;
+use shapes::Paired;
 
 // A transform number: its pair.
 fn pair(text: &[u8], table: &[u32], i: usize, sheet: &mut [u8], at: usize) -> usize
     requires { ⌜ Holds Pair (now text) (now table) i ⌝ }
     ensures { λ r. ⌜ Wrote (λ v. layDecimal (decimalOf v)) (now (text .entry)) (now (table .entry)) i (now (sheet .entry)) (now (sheet .exit)) at r ⌝ }
 {
-    let answer = numerals::pair(text, nodes::start(table, i), nodes::end(table, i));
-    let Numeral::Pair(m, e) = answer else {
-        return at;
-    };
-    let middle = writer::put8(sheet, at, writer::bits(m));
-    writer::put2(sheet, middle, writer::bits(e))
+    let answer = shapes::pair(text, table, i);
+    match answer {
+        Paired::Pair(m, e) => {
+            let middle = writer::put8(sheet, at, writer::bits(m));
+            writer::put2(sheet, middle, writer::bits(e))
+        }
+        Paired::Fault(_) => at,
+    }
 }
 
 // `scale` or `translate`: three pairs.

@@ -5,7 +5,9 @@ use mathlib.Core.Path.{_≡_, sym, ap, _∙_, subst}
 use mathlib.Core.List.{List, map}
 use lib.ListN.{length}
 use borrow.Author.Needs.{needs}
+use borrow.Author.Tests.{lt-ltb, le-ltb}
 use Rattle.utf8.specs.Utf8.{wholeLength}
+use Rattle.utf8.specs.Laws.{clash}
 use Rattle.json.specs.Machine.{reads}
 use Rattle.json.specs.Table.{Sub}
 use Rattle.json.specs.Parse.{Tells}
@@ -19,15 +21,15 @@ use Rattle.schema.specs.Schema.{cityJson}
 use Rattle.schema.specs.Says.{IndexedAt}
 use Rattle.schema.specs.declared.Walked.{Walked}
 use Rattle.links.specs.Says.{Ready, LinksGive}
-use Rattle.verdict.specs.Verdict.{refused, faults, parsed}
-use Rattle.verdict.specs.Exact.{verdict-long, verdict-odd, verdict-read, in-text}
+use Rattle.verdict.specs.Verdict.{faults}
+use Rattle.verdict.specs.Exact.{in-text}
 use Rattle.verdict.specs.Places.{Placed, early}
 use Rattle.refusals.specs.Refusals.{numberOf}
 use Rattle.refusals.specs.declared.Broken.the-variants as broken
 use Rattle.judging.specs.declared.Screened.the-variants as screened
 use Rattle.judging.specs.declared.Opened.{Opened}
 use Rattle.judging.specs.declared.Opened.the-variants as opened
-use Rattle.judging.specs.Judging.{Room, Screens, Stands, Opens, Examined}
+use Rattle.judging.specs.Judging.{screening, screenedAs, opening, openedAs, Room, Stands, Holds, Opens, Examined}
 use Rattle.judging.specs.Laws.{passed-short, passed-judged, screened-refused, opened-tree, opened-refused, table-refused, table-accepted}
 use Rattle.judging.specs.Least.{early-passes, all-passes, before-links, no-repeat, no-schema, from-five, few-objects}
 use Rattle.judging.proofs.Alone.{alone}
@@ -35,40 +37,43 @@ use Rattle.judging.proofs.Alone.{alone}
 -- ---- rules 1 and 2
 
 module _ (x : List ℕ) where
-  pub screen-long : 65535 < length x → Screens x (screened.Refused (record { rule = broken.TooLong; place = 65535 }))
-  unfolding Screens numberOf
-  screen-long h = (verdict-long x h, omega arith)
+  pub screen-long : 65535 < length x → screenedAs (screened.Refused (record { rule = broken.TooLong; place = 65535 })) ≡ screening x
+  unfolding screenedAs screening numberOf
+  screen-long h = rw (lt-ltb 65535 (length x) h)
 
   module _ {n : ℕ} (short : length x ≤ 65535) (whole : n ≡ wholeLength x) where
-    pub screen-odd : n < length x → Screens x (screened.Refused (record { rule = broken.NotUtf8; place = n }))
-    unfolding Screens numberOf
-    screen-odd h = (verdict-odd x short (omega arith) ∙ ap (refused 2) (sym whole), omega arith)
+    pub screen-odd : n < length x → screenedAs (screened.Refused (record { rule = broken.NotUtf8; place = n })) ≡ screening x
+    unfolding screenedAs screening numberOf
+    screen-odd h = rw (le-ltb 65535 (length x) short, lt-ltb (wholeLength x) (length x) (omega arith), whole)
 
-    pub screen-passed : length x ≤ n → Screens x screened.Passed
-    unfolding Screens
-    screen-passed h = (short, verdict-read x short (omega arith))
+    pub screen-passed : length x ≤ n → screenedAs screened.Passed ≡ screening x
+    unfolding screenedAs screening
+    screen-passed h = rw (le-ltb 65535 (length x) short, le-ltb (wholeLength x) (length x) (omega arith))
 
 -- ---- rules 3 and 4
 
 module _ (x t₀ t : List ℕ) {r : Parsed} (h : Tells x t₀ t r) where
-  pub open-tree : {n : ℕ} → r ≡ parse.Nodes n → Opens x t (opened.Tree n)
-  unfolding Tells Opens
-  open-tree e = let s = subst (Tells x t₀ t) e h in record { value = s .value; short = s .short; reads = s .reads; stands = s .stands; ends = s .ends }
+  pub open-tree : {n : ℕ} → r ≡ parse.Nodes n → Opens x t₀ t (opened.Tree n)
+  unfolding Tells openedAs opening
+  open-tree {n} e =
+      let s = subst (Tells x t₀ t) e h in
+      let m : Holds x t₀ t n = record { tree = record { value = s .value; short = s .short; reads = s .reads; stands = s .stands; ends = s .ends }; rest = s .rest } in
+      record { is = rw (s .reads, s .ends); holds = λ k q. let z : n ≡ k = cc in rw (← z) m }
 
-  pub open-bad : {p : ℕ} → r ≡ parse.Bad p → Opens x t (opened.Refused (record { rule = broken.NotJson; place = p }))
-  unfolding Tells Opens numberOf parsed
-  open-bad e = (ap parsed (subst (Tells x t₀ t) e h .1), omega arith)
+  pub open-bad : {p : ℕ} → r ≡ parse.Bad p → Opens x t₀ t (opened.Refused (record { rule = broken.NotJson; place = p }))
+  unfolding Tells openedAs opening numberOf
+  open-bad e = record { is = rw (subst (Tells x t₀ t) e h .1); holds = λ k q. clash cc }
 
-  pub open-deep : {p : ℕ} → r ≡ parse.Deep p → Opens x t (opened.Refused (record { rule = broken.TooDeep; place = p }))
-  unfolding Tells Opens numberOf parsed
-  open-deep e = (ap parsed (subst (Tells x t₀ t) e h .1), omega arith)
+  pub open-deep : {p : ℕ} → r ≡ parse.Deep p → Opens x t₀ t (opened.Refused (record { rule = broken.TooDeep; place = p }))
+  unfolding Tells openedAs opening numberOf
+  open-deep e = record { is = rw (subst (Tells x t₀ t) e h .1); holds = λ k q. clash cc }
 
   -- neither happens
-  pub open-long : (o : Opened) → Room x t₀ → r ≡ parse.Long → Opens x t o
+  pub open-long : (o : Opened) → Room x t₀ → r ≡ parse.Long → Opens x t₀ t o
   unfolding Tells
-  open-long o k e = absurd (omega (arith, subst (Tells x t₀ t) e h, k .short))
+  open-long o k e = absurd (omega (arith, subst (Tells x t₀ t) e h .0, k .short))
 
-  pub open-short : (o : Opened) → Room x t₀ → r ≡ parse.Short → Opens x t o
+  pub open-short : (o : Opened) → Room x t₀ → r ≡ parse.Short → Opens x t₀ t o
   unfolding Tells
   open-short o k e = absurd (omega (arith, subst (Tells x t₀ t) e h .1, k .long))
 

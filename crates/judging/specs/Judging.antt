@@ -1,12 +1,17 @@
 -- What judge and its parts answer. Assumes nothing: these are definitions.
 use mathlib.Core.Path.{_≡_}
+use mathlib.Core.Bool.{cond}
 use mathlib.Core.List.{List}
+use mathlib.Core.Logic.{_⊎_, inl, inr}
+use mathlib.Core.Option.{Option, none, some}
 use Prim.Native.Nat.{ℕ, _+_, _*_, _≤_}
-use lib.ListN.{length}
+use lib.ListN.{length, getD}
+use lib.Dec.{ltb}
+use Rattle.utf8.specs.Utf8.{wholeLength}
 use Rattle.json.specs.Tree.{Json}
-use Rattle.json.specs.Machine.{read, reads}
+use Rattle.json.specs.Machine.{Outcome, read, reads, bad, tooDeep}
 use Rattle.json.specs.Table.{Sub, size}
-use Rattle.nodes.specs.Faults.{least, none}
+use Rattle.nodes.specs.Faults as faults
 use Rattle.fields.specs.Fields.{objectsOf}
 use Rattle.fields.specs.Says.{Indexed}
 use Rattle.schema.specs.declared.Walked.{Walked}
@@ -38,18 +43,42 @@ pub record Room (x t : List ℕ) : Type 0 where
   pub short : length x ≤ 65535
   pub long : 3 * length x + 99 ≤ 2 * length t
 
--- rules 1 and 2 were kept, or the text x is refused by one of them
-unfoldable pub Screens : List ℕ → Screened → Type 0
-Screens x screened.Passed = (length x ≤ 65535) × (verdict.verdict x ≡ verdict.parsed (read x))
-Screens x (screened.Refused f) = (verdict.verdict x ≡ refusal f) × (numberOf (f .rule) ≤ 2)
+-- rules 1 and 2: the refusal by one of them, if there is one
+unfoldable pub screening : List ℕ → Option verdict.Verdict
+unfolding wholeLength
+screening x =
+    cond (ltb 65535 (length x)) (some (verdict.refused 1 65535))
+    (cond (ltb (wholeLength x) (length x)) (some (verdict.refused 2 (wholeLength x))) none)
 
--- the first n words of the table t are those of the text's tree, or the text x is refused by rule 3 or 4
-unfoldable pub Opens : List ℕ → List ℕ → Opened → Type 0
-Opens x t (opened.Tree n) = Stands x t n
-Opens x t (opened.Refused f) = (verdict.parsed (read x) ≡ refusal f) × (numberOf (f .rule) ≤ 4)
+-- what `screen` answers, as that
+unfoldable pub screenedAs : Screened → Option verdict.Verdict
+screenedAs screened.Passed = none
+screenedAs (screened.Refused f) = some (refusal f)
+
+-- rules 3 and 4: how many words the tree takes that a text is read as, or the refusal
+unfoldable pub opening : Outcome → ℕ ⊎ verdict.Verdict
+unfolding size
+opening (reads v) = inl (size v)
+opening (bad p) = inr (verdict.refused 3 p)
+opening (tooDeep p) = inr (verdict.refused 4 p)
+
+-- what `open` answers, as that
+unfoldable pub openedAs : Opened → ℕ ⊎ verdict.Verdict
+openedAs (opened.Tree n) = inl n
+openedAs (opened.Refused f) = inr (refusal f)
+
+-- the table, which was t₀, has the words of the tree; the others are as they were
+pub record Holds (x t₀ t : List ℕ) (n : ℕ) : Type 0 where
+  pub tree : Stands x t n
+  pub rest : (k : ℕ) → n ≤ k → getD t k 0 ≡ getD t₀ k 0
+
+-- r is the answer for the text x, and what the table holds if that is a tree
+pub record Opens (x t₀ t : List ℕ) (r : Opened) : Type 0 where
+  pub is : openedAs r ≡ opening (read x)
+  pub holds : (n : ℕ) → r ≡ opened.Tree n → Holds x t₀ t n
 
 -- the least fault of the rules 5 to 17 of the tree that the text x is read as, and the index over the table t of its city objects
 pub record Examined (x t : List ℕ) (w : Walked) : Type 0 where
-  pub least : (v : Json) → read x ≡ reads v → w .least ≡ least none (verdict.faults v)
+  pub least : (v : Json) → read x ≡ reads v → w .least ≡ faults.least faults.none (verdict.faults v)
   pub from : 5 * 65536 ≤ w .least
   pub indexed : (v : Json) → read x ≡ reads v → Indexed x t (objectsOf v) (w .index)

@@ -1,14 +1,23 @@
 -- What follows from what the parts of judge answered. Assumes nothing.
 use Prim.Native.Nat.{ℕ, _≤_, _<_}
 use native.Mathlib.Omega.{arith}
-use mathlib.Core.Path.{_≡_, sym, ap, _∙_, subst}
+use mathlib.Core.Path.{_≡_, refl, sym, ap, _∙_, subst}
+use mathlib.Core.Bool.{Bool, true, false, cond}
 use mathlib.Core.List.{List, []}
+use mathlib.Core.Logic.{_⊎_, inl, inr}
+use mathlib.Core.Option.{Option, some}
+use mathlib.Core.Option as option
 use lib.ListN.{length}
-use Rattle.json.specs.Machine.{read}
+use lib.Dec.{ltb}
+use borrow.Author.Tests.{ltb-true, ltb-false}
+use Rattle.utf8.specs.Utf8.{wholeLength}
+use Rattle.utf8.specs.Laws.{clash}
+use Rattle.json.specs.Machine.{Outcome, read, reads, bad, tooDeep}
 use Rattle.nodes.specs.Faults.{ruleOf, placeIn, none}
 use Rattle.schema.specs.declared.Walked.{Walked}
 use Rattle.verdict.specs.Verdict.{accepted, refused, faults, parsed, verdict}
-use Rattle.verdict.specs.Exact.{in-text}
+use Rattle.verdict.specs.Verdict as judged
+use Rattle.verdict.specs.Exact.{verdict-long, verdict-odd, verdict-read, in-text}
 use Rattle.refusals.specs.Refusals.{refusal}
 use Rattle.refusals.specs.declared.Refusal.{Refusal}
 use Rattle.judging.specs.declared.Screened.{Screened}
@@ -17,34 +26,59 @@ use Rattle.judging.specs.declared.Opened.{Opened}
 use Rattle.judging.specs.declared.Opened.the-variants as opened
 use Rattle.judging.specs.declared.Verdict.{Verdict}
 use Rattle.judging.specs.declared.Verdict.the-variants.{Accepted, Refused}
-use Rattle.judging.specs.Judging.{told, Screens, Stands, Opens, Examined}
+use Rattle.judging.specs.Judging.{told, screening, screenedAs, opening, openedAs, Stands, Opens, Examined}
 use Rattle.judging.specs.Least.{no-fault, judged-fault, judged-none, few-clean}
 
 -- ---- rules 1 and 2
 
-module _ (x : List ℕ) {r : Screened} (h : Screens x r) where
+-- what the screening leaves of the verdict
+abbrev Left : List ℕ → Option judged.Verdict → Type 0
+Left x option.none = (length x ≤ 65535) × (verdict x ≡ parsed (read x))
+Left x (some v) = verdict x ≡ v
+
+left : (x : List ℕ) → Left x (screening x)
+unfolding screening
+left x = by (ltb 65535 (length x)) (ltb (wholeLength x) (length x)) refl refl
+  where
+    by : (a b : Bool) → ltb 65535 (length x) ≡ a → ltb (wholeLength x) (length x) ≡ b
+        → Left x (cond a (some (refused 1 65535)) (cond b (some (refused 2 (wholeLength x))) option.none))
+    by true b p q = verdict-long x (ltb-true _ _ p)
+    by false true p q = verdict-odd x (ltb-false _ _ p) (ltb-true _ _ q)
+    by false false p q = (ltb-false _ _ p, verdict-read x (ltb-false _ _ p) (ltb-false _ _ q))
+
+screened-left : (x : List ℕ) {r s : Screened} → screenedAs r ≡ screening x → r ≡ s → Left x (screenedAs s)
+screened-left x h e = subst (Left x) (sym h ∙ ap screenedAs e) (left x)
+
+module _ (x : List ℕ) {r : Screened} (h : screenedAs r ≡ screening x) where
   pub passed-short : r ≡ screened.Passed → length x ≤ 65535
-  unfolding Screens
-  passed-short e = subst (Screens x) e h .0
+  unfolding screenedAs
+  passed-short e = screened-left x h e .0
+
+  pub passed-verdict : r ≡ screened.Passed → verdict x ≡ parsed (read x)
+  unfolding screenedAs
+  passed-verdict e = screened-left x h e .1
 
   pub passed-judged : (a : Verdict) → r ≡ screened.Passed → told a ≡ parsed (read x) → told a ≡ verdict x
-  unfolding Screens
-  passed-judged a e j = j ∙ sym (subst (Screens x) e h .1)
+  passed-judged a e j = j ∙ sym (passed-verdict e)
 
   pub screened-refused : {f : Refusal} → r ≡ screened.Refused f → told (Refused f) ≡ verdict x
-  unfolding Screens told
-  screened-refused e = sym (subst (Screens x) e h .0)
+  unfolding screenedAs told
+  screened-refused e = sym (screened-left x h e)
 
 -- ---- rules 3 and 4
 
-module _ (x t : List ℕ) {r : Opened} (h : Opens x t r) where
+module _ (x t₀ t : List ℕ) {r : Opened} (h : Opens x t₀ t r) where
   pub opened-tree : {n : ℕ} → r ≡ opened.Tree n → Stands x t n
-  unfolding Opens
-  opened-tree e = subst (Opens x t) e h
+  opened-tree e = h .holds _ e .tree
 
   pub opened-refused : {f : Refusal} → r ≡ opened.Refused f → told (Refused f) ≡ parsed (read x)
-  unfolding Opens told
-  opened-refused e = sym (subst (Opens x t) e h .0)
+  unfolding told openedAs opening parsed
+  opened-refused {f} e = by (read x) (sym (ap openedAs e) ∙ h .is)
+    where
+      by : (o : Outcome) → inr (refusal f) ≡ opening o → refusal f ≡ parsed o
+      by (reads v) q = clash cc
+      by (bad p) q = cc
+      by (tooDeep p) q = cc
 
 -- ---- rules 5 to 17
 

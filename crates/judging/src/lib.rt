@@ -4,7 +4,7 @@ ghost use mathlib.Core.Path.{_≡_};
 ghost use lib.ListN.{length};
 ghost use Rattle.verdict.specs.Verdict.{parsed, verdict};
 ghost use Rattle.json.specs.Machine.{read};
-ghost use Rattle.judging.specs.Judging.{told, Room, Screens, Stands, Opens, Examined};
+ghost use Rattle.judging.specs.Judging.{told, screening, screenedAs, Room, Stands, Opens, Examined};
 use json::Parsed;
 use refusals::Broken;
 use refusals::Refusal;
@@ -30,7 +30,7 @@ pub enum Opened {
 
 // Rules 1 and 2.
 pub fn screen(text: &[u8]) -> Screened
-    ensures { λ r. ⌜ Screens (now (text .entry)) r ⌝ }
+    ensures { λ r. ⌜ screenedAs r ≡ screening (now (text .entry)) ⌝ }
 {
     if text.len() > 65535 {
         return Screened::Refused(Refusal {
@@ -51,7 +51,7 @@ pub fn screen(text: &[u8]) -> Screened
 // Reads a text that is not too long into the node table, or refuses it by rule 3 or 4.
 pub fn open(text: &[u8], table: &mut [u32]) -> Opened
     requires { ⌜ Room (now text) (now table) ⌝ }
-    ensures { λ r. ⌜ Opens (now (text .entry)) (now (table .exit)) r ⌝ }
+    ensures { λ r. ⌜ Opens (now (text .entry)) (now (table .entry)) (now (table .exit)) r ⌝ }
 {
     let answer = json::parse(text, table);
     match answer {

@@ -37,8 +37,8 @@ use Rattle.refusals.specs.declared.Refusal.{Refusal}
 use Rattle.judging.specs.declared.Screened.{Screened}
 use Rattle.judging.specs.declared.Screened.the-variants as screened
 use Rattle.judging.specs.declared.Verdict.the-variants.{Refused}
-use Rattle.judging.specs.Judging.{told, Screens, Stands, Examined}
-use Rattle.judging.specs.Laws.{passed-short, screened-refused, opened-tree, opened-refused, clean, table-accepted}
+use Rattle.judging.specs.Judging.{told, screening, screenedAs, Stands, Examined}
+use Rattle.judging.specs.Laws.{passed-short, passed-verdict, screened-refused, opened-tree, opened-refused, clean, table-accepted}
 use Rattle.judging.specs.Least.{few-clean}
 use Rattle.laying.specs.declared.Answer.the-variants as answers
 use Rattle.laying.specs.Laying.{answered, Zeroes, Lays}
@@ -116,9 +116,7 @@ pub lay-answer : {x d₀ d : List ℕ} {n : ℕ} {a : laid.Answer} → Lays x (v
 unfolding answer roomAfter
 lay-answer {x} l e = let g = rw e at (l .gives) in (g, rw e at (l .leaves) ∙ ap (filled x _) g)
 
-module _ {x : List ℕ} {r : Screened} (h : Screens x r) where
-  pub passed-lay : {d₀ d : List ℕ} {a : laid.Answer} → r ≡ screened.Passed → Lays x (parsed (read x)) d₀ d a → Lays x (verdict.verdict x) d₀ d a
-  unfolding Screens
-  passed-lay e l = rw (subst (Screens x) e h .1) l
+pub passed-lay : {x d₀ d : List ℕ} {a : laid.Answer} {r : Screened} → screenedAs r ≡ screening x → r ≡ screened.Passed → Lays x (parsed (read x)) d₀ d a → Lays x (verdict.verdict x) d₀ d a
+passed-lay {x} h e l = rw (passed-verdict x h e) l
 
 pub ruleset lays = (needs, passed-short, screened-refused, opened-tree, opened-refused)

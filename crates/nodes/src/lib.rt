@@ -45,7 +45,7 @@ pub fn next(table: &[u32], i: usize) -> usize
 }
 
 // The byte that a value starts with, which tells its kind.
-pub fn lead(text: &[u8], table: &[u32], i: usize) -> u8
+fn lead(text: &[u8], table: &[u32], i: usize) -> u8
     requires { ⌜ Node (now text) (now table) i ⌝ }
     ensures { λ r. ⌜ r ≡ getD (now (text .entry)) (getD (now (table .entry)) i 0) 0 ⌝ }
 {

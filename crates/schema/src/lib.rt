@@ -379,7 +379,7 @@ fn found_object(text: &[u8], table: &[u32], found: Found, best: u32) -> u32
 }
 
 // A city object.
-pub fn city_object(text: &[u8], table: &[u32], i: usize, vertices: usize, best: u32) -> u32
+fn city_object(text: &[u8], table: &[u32], i: usize, vertices: usize, best: u32) -> u32
     requires { ⌜ Node (now text) (now table) i ⌝ }
     ensures { λ r. ⌜ Gives (λ v. least best (schema.cityObject vertices v)) (now (text .entry)) (now (table .entry)) i r ⌝ }
 {

@@ -1,26 +1,34 @@
 -- Integers, pairs and shapes at a node, from what the code's tests say. Assumes nothing.
-use Prim.Native.Nat.{ℕ, suc, zero, _+_, _-_, _<_, _≤_}
+use Prim.Native.Nat.{ℕ, suc, zero, _+_, _-_, _<_, _≤_, min}
 use mathlib.Core.Path.{_≡_, refl, sym, ap, _∙_}
 use mathlib.Core.Bool.{Bool, true, false, not, _&&_, _||_}
 use mathlib.Core.List.{List, _++_}
+use mathlib.Core.Logic.{_⊎_, inl, inr}
+use mathlib.Core.Option.{Option, some}
+use mathlib.Core.Option as option
+use lib.IntN.{ℤ}
 use native.Mathlib.Omega.{arith}
 use lib.ListN.{length, getD}
 use lib.Seq.{slice}
 use lib.Dec.{eqb}
 use borrow.Author.Tests.{not-true, not-false, ne-eqb, eq-eqb}
-use Rattle.numerals.specs.Numerals.{isInteger, integer, pairOf, fits32, isBelow}
+use Rattle.numerals.specs.Numerals.{Decimal, isInteger, integer, pairOf, fits32, isBelow}
 use Rattle.numerals.specs.Reading.{pairIn}
 use Rattle.numerals.specs.declared.Numeral.{Numeral}
 use Rattle.numerals.specs.declared.Numeral.the-variants.{Pair, Out}
 use Rattle.json.specs.Tree.{Json}
 use Rattle.json.specs.Table.{Sub}
 use Rattle.json.specs.Laws.{Left, Past, past, over, ended}
-use Rattle.nodes.specs.Access.{isNullValue, isNumberValue, isArrayValue, listed, elements}
-use Rattle.nodes.specs.Faults.{least}
+use Rattle.nodes.specs.Access.{isNullValue, isNumberValue, isArrayValue, listed, elements, numeralOf}
+use Rattle.nodes.specs.Faults.{fault, least}
 use Rattle.nodes.specs.Says.{Node, Gives}
-use Rattle.nodes.specs.Laws.{numeral-at, elements-begin, least-++}
-use Rattle.shapes.specs.Checks.{unless, each, isArray, isNumber}
-use Rattle.shapes.specs.Shapes.{isIntegerValue, allIntegers, holdsThree, isPair, inPairRange, isTriple, coordinate, vertex, shaped, near}
+use Rattle.nodes.specs.Laws.{place-at, numeral-at, elements-begin, least-++}
+use Rattle.shapes.specs.Checks.{unless, each, isArray, isNumber, numeral}
+use Rattle.shapes.specs.Shapes.{isIntegerValue, allIntegers, holdsThree, isPair, inPairRange, orFault, pairOrFault, isTriple, coordinate, vertex, shaped, near}
+use Rattle.shapes.specs.Says.{pairedAs, GivesPair}
+use Rattle.shapes.specs.declared.Paired.{Paired}
+use Rattle.shapes.specs.declared.Paired.the-variants.{Fault}
+use Rattle.shapes.specs.declared.Paired.the-variants as paired
 use Rattle.shapes.specs.Laws.{least-turn, unless-true, unless-yes, unless-told, each-none, numeral-none, numeral-is, kind-no, kind-yes}
 
 -- a test or another that is known
@@ -53,6 +61,11 @@ unfolding near each
 near-suc count zero h v = absurd (h refl)
 near-suc count (suc d) h v = let e : d ≡ suc d - 1 = omega arith in ap (λ (k : ℕ). each (near count k) v) e
 
+-- the fault where there is one, if it is less than best
+abbrev orBest : ℕ → Decimal ⊎ ℕ → ℕ
+orBest best (inl d) = best
+orBest best (inr f) = min best f
+
 module _ {x t : List ℕ} {i : ℕ} where
   -- an integer
   pub integer-no : {b : Bool} → Gives isNumberValue x t i b → not b ≡ true → Gives isIntegerValue x t i false
@@ -82,19 +95,50 @@ module _ {x t : List ℕ} {i : ℕ} where
       told : (v : Json) → Sub x t i v → eqb n 3 ≡ not (isArrayValue v) || eqb (length (elements v)) 3
       told v s = let z : isArrayValue v ≡ true = sym (g .is v s) ∙ not-false b e in rw (z, ← k .is v s)
 
+  -- a number's bytes
+  pub number-node : {b : Bool} → Gives isNumberValue x t i b → not b ≡ false → Gives isNumberValue x t i true
+  number-node {b} g h = rw (not-false b h) at g
+
+  module _ (d : Node x t i) (g : Gives isNumberValue x t i true) {e : ℕ} (o : e ≡ getD t (i + 1) 0) where
+    pub pair-low : {p : ℕ} → p ≡ getD t i 0 → p ≤ e
+    pair-low q = rw (q, o) (numeral-at (d .stands) (sym (g .is (d .value) (d .stands))) .low)
+
+    pub pair-high : e ≤ length x
+    pair-high = rw o (numeral-at (d .stands) (sym (g .is (d .value) (d .stands))) .high)
+
   -- a pair in range
   pub pair-none : (best : ℕ) {b : Bool} → Gives isNumberValue x t i b → not b ≡ true → Gives (λ v. least best (inPairRange v)) x t i best
   unfolding inPairRange
   pair-none best g e = numeral-none best 13 (λ raw. isPair (pairOf raw)) g e
 
-  module _ (best : ℕ) {b : Bool} {p e : ℕ} {a : Numeral} (g : Gives isNumberValue x t i b) (h : not b ≡ false) (q : p ≡ getD t i 0) (o : e ≡ getD t (i + 1) 0) (m : pairIn a ≡ pairOf (slice p e x)) where
-    pub pair-out : {r : ℕ} → a ≡ Out → Gives (λ v. least best (unless false 13 v)) x t i r → Gives (λ v. least best (inPairRange v)) x t i r
-    unfolding inPairRange pairIn isPair
-    pair-out k u = numeral-is best 13 (λ raw. isPair (pairOf raw)) {k = false} g h q o (rw (← m, k)) u
+  module _ {p e : ℕ} (a : Numeral) (g : Gives isNumberValue x t i true) (q : p ≡ getD t i 0) (o : e ≡ getD t (i + 1) 0) (m : pairIn a ≡ pairOf (slice p e x)) where
+    pair-bytes : (v : Json) → Sub x t i v → pairIn a ≡ pairOf (numeralOf v)
+    pair-bytes v s = rw (numeral-at s (sym (g .is v s)) .bytes, ← q, ← o) m
 
-    pub pair-in : {n d : _} → a ≡ Pair n d → Gives (λ v. least best (inPairRange v)) x t i best
-    unfolding inPairRange pairIn isPair
-    pair-in k = numeral-is best 13 (λ raw. isPair (pairOf raw)) {k = true} g h q o (rw (← m, k)) (unless-yes best 13 refl)
+    pub pair-fault : {f : ℕ} → a ≡ Out → f ≡ fault 13 p → GivesPair x t i (Fault f)
+    unfolding pairedAs pairOrFault orFault pairIn
+    pair-fault k z = record { is = λ v s. rw (← pair-bytes v s, k, z, q, ← place-at s) }
+
+    pub pair-taken : {n d : ℤ} → a ≡ Pair n d → GivesPair x t i (paired.Pair n d)
+    unfolding pairedAs pairOrFault orFault pairIn
+    pair-taken k = record { is = λ v s. rw (← pair-bytes v s, k) }
+
+  module _ (best : ℕ) {b : Bool} {a : Paired} (g : Gives isNumberValue x t i b) (h : not b ≡ false) (r : GivesPair x t i a) where
+    ranged : (v : Json) → Sub x t i v → least best (inPairRange v) ≡ orBest best (pairedAs a)
+    unfolding pairOrFault inPairRange numeral unless isPair orFault least
+    ranged v s = by (pairOf (numeralOf v)) refl ∙ ap (orBest best) (sym (r .is v s))
+      where
+        by : (o : Option Decimal) → pairOf (numeralOf v) ≡ o → least best (inPairRange v) ≡ orBest best (orFault v o)
+        by option.none e = let z : isNumberValue v ≡ true = sym (g .is v s) ∙ not-false b h in rw (z, e)
+        by (some d) e = let z : isNumberValue v ≡ true = sym (g .is v s) ∙ not-false b h in rw (z, e)
+
+    pub pair-in : {n d : ℤ} → a ≡ paired.Pair n d → Gives (λ v. least best (inPairRange v)) x t i best
+    unfolding pairedAs
+    pair-in k = record { is = λ v s. sym (ranged v s ∙ ap (λ c. orBest best (pairedAs c)) k) }
+
+    pub pair-out : {f c : ℕ} → a ≡ Fault f → c ≡ min best f → Gives (λ v. least best (inPairRange v)) x t i c
+    unfolding pairedAs
+    pair-out k z = record { is = λ v s. z ∙ sym (ranged v s ∙ ap (λ c. orBest best (pairedAs c)) k) }
 
   -- a coordinate
   pub coordinate-none : (best : ℕ) {b : Bool} → Gives isNumberValue x t i b → not b ≡ true → Gives (λ v. least best (coordinate v)) x t i best

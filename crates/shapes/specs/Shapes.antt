@@ -4,11 +4,13 @@ use mathlib.Core.Bool.{Bool, true, false, cond, not, _&&_, _||_}
 use mathlib.Core.List.{List, [], _∷_, _++_}
 use mathlib.Core.Option.{Option, some}
 use mathlib.Core.Option as option
+use mathlib.Core.Logic.{_⊎_, inl, inr}
 use lib.ListN.{length}
 use lib.Dec.{eqb}
 use Rattle.numerals.specs.Numerals.{Decimal, isInteger, integer, pairOf, fits32, isBelow}
-use Rattle.json.specs.Tree.{Json}
+use Rattle.json.specs.Tree.{Json, placeOf}
 use Rattle.nodes.specs.Access.{isNullValue, isNumberValue, isArrayValue, elements, numeralOf}
+use Rattle.nodes.specs.Faults.{fault}
 use Rattle.shapes.specs.Checks.{Check, unless, forEach, each, numeral}
 
 -- a numeral that is an integer
@@ -34,6 +36,16 @@ isPair (some d) = true
 unfoldable pub inPairRange : Check
 unfolding numeral isPair pairOf
 inPairRange = numeral 13 (λ raw. isPair (pairOf raw))
+
+-- such a number's pair, or its fault
+unfoldable pub orFault : Json → Option Decimal → Decimal ⊎ ℕ
+unfolding fault placeOf
+orFault v option.none = inr (fault 13 (placeOf v))
+orFault v (some d) = inl d
+
+unfoldable pub pairOrFault : Json → Decimal ⊎ ℕ
+unfolding orFault pairOf numeralOf
+pairOrFault v = orFault v (pairOf (numeralOf v))
 
 -- 12: a vertex is an array of three integers, at the element of `vertices`; 13: each fits 32 signed bits, at the number
 unfoldable pub isTriple : Json → Bool

@@ -3,14 +3,14 @@
 ghost use Prim.Native.Nat.{_<_};
 ghost use mathlib.Core.Bool.{true, _||_};
 ghost use mathlib.Core.List.{_++_};
-ghost use Rattle.nodes.specs.Access.{isNullValue, isArrayValue, elements};
+ghost use Rattle.nodes.specs.Access.{isNullValue, isNumberValue, isArrayValue, elements};
 ghost use Rattle.nodes.specs.Faults.{least};
 ghost use Rattle.nodes.specs.Says.{Node, Sought, Gives};
 ghost use Rattle.shapes.specs.Checks.{isObject, isString, isNumber, isArray, each};
 ghost use Rattle.shapes.specs.Checks as checks;
 ghost use Rattle.shapes.specs.Shapes.{isIntegerValue, allIntegers, holdsThree, inPairRange, isTriple};
 ghost use Rattle.shapes.specs.Shapes as shape;
-ghost use Rattle.shapes.specs.Says.{Nodes, GivesTwo, Needs, Clears, IsSmall};
+ghost use Rattle.shapes.specs.Says.{Nodes, GivesTwo, GivesPair, Needs, Clears, IsSmall};
 use nodes::Found;
 use numerals::Numeral;
 
@@ -40,7 +40,7 @@ pub fn string(text: &[u8], table: &[u32], i: usize, best: u32) -> u32
     unless(nodes::is_string(text, table, i), 7, text, table, i, best)
 }
 
-pub fn number(text: &[u8], table: &[u32], i: usize, best: u32) -> u32
+fn number(text: &[u8], table: &[u32], i: usize, best: u32) -> u32
     requires { ⌜ Node (now text) (now table) i ⌝ }
     ensures { λ r. ⌜ Gives (λ v. least best (isNumber v)) (now (text .entry)) (now (table .entry)) i r ⌝ }
 {
@@ -66,7 +66,7 @@ pub fn need(found: Found, text: &[u8], table: &[u32], i: usize, best: u32) -> u3
 }
 
 // Is the value a numeral that is an integer?
-pub fn is_integer(text: &[u8], table: &[u32], i: usize) -> bool
+fn is_integer(text: &[u8], table: &[u32], i: usize) -> bool
     requires { ⌜ Node (now text) (now table) i ⌝ }
     ensures { λ r. ⌜ Gives isIntegerValue (now (text .entry)) (now (table .entry)) i r ⌝ }
 {
@@ -77,7 +77,7 @@ pub fn is_integer(text: &[u8], table: &[u32], i: usize) -> bool
 }
 
 // Rule 12: `scale` and `translate` hold three numbers.
-pub fn three(text: &[u8], table: &[u32], i: usize, best: u32) -> u32
+fn three(text: &[u8], table: &[u32], i: usize, best: u32) -> u32
     requires { ⌜ Node (now text) (now table) i ⌝ }
     ensures { λ r. ⌜ Gives (λ v. least best (holdsThree v)) (now (text .entry)) (now (table .entry)) i r ⌝ }
 {
@@ -85,6 +85,25 @@ pub fn three(text: &[u8], table: &[u32], i: usize, best: u32) -> u32
         return best;
     }
     unless(nodes::count(text, table, i) == 3, 12, text, table, i, best)
+}
+
+// A transform number: its pair, or the fault of rule 13.
+pub enum Paired {
+    Pair(i64, i64),
+    Fault(u32),
+}
+
+// The pair of the number at a node, or the fault of rule 13 where it cannot be read as one.
+pub fn pair(text: &[u8], table: &[u32], i: usize) -> Paired
+    requires { ⌜ (Node (now text) (now table) i) × (Gives isNumberValue (now text) (now table) i true) ⌝ }
+    ensures { λ r. ⌜ GivesPair (now (text .entry)) (now (table .entry)) i r ⌝ }
+{
+    let from = nodes::start(table, i);
+    let answer = numerals::pair(text, from, nodes::end(table, i));
+    let Numeral::Pair(m, e) = answer else {
+        return Paired::Fault(nodes::fault_at(13, from));
+    };
+    Paired::Pair(m, e)
 }
 
 // Rule 13: a transform number is a pair in range.
@@ -95,11 +114,11 @@ fn pair_range(text: &[u8], table: &[u32], i: usize, best: u32) -> u32
     if !nodes::is_number(text, table, i) {
         return best;
     }
-    let answer = numerals::pair(text, nodes::start(table, i), nodes::end(table, i));
-    let Numeral::Pair(_, _) = answer else {
-        return unless(false, 13, text, table, i, best);
-    };
-    best
+    let answer = pair(text, table, i);
+    match answer {
+        Paired::Pair(_, _) => best,
+        Paired::Fault(fault) => nodes::lesser(best, fault),
+    }
 }
 
 // Rules 7 and 13 of each entry of `scale` or `translate`.

@@ -1,17 +1,23 @@
--- `shapes::pair_range` meets its contract. Assumes nothing.
-use Rattle.shapes.proofs.Parts.{pair-none, pair-out, pair-in}
+-- `shapes::pair_range` meets its contract.
+use Rattle.shapes.proofs.Parts.{pair-none, pair-in, pair-out, number-node}
 use Rattle.shapes.proofs.Rules.{shapes}
 use Rattle.shapes.proofs.pair_range.Statement.{statement}
 use Rattle.shapes.proofs.pair_range.Tie as tie
 
-returns : tie.Need-returns
-returns c = pair-none _ (c .before .is-number .ensures) (c .if1 .taken)
-
-returns-2 : tie.Need-returns-2
-returns-2 c = pair-out _ (c .before .before .before .before .before .before .before .is-number .ensures) (c .before .before .before .before .before .before .if1 .left) (c .before .before .before .before .before .start .ensures) (c .before .before .before .before .end .ensures) (c .before .before .before .pair .ensures) (search shapes) (c .unless .ensures)
-
 returns-3 : tie.Need-returns-3
-returns-3 c = pair-in _ (c .before .before .before .before .before .before .is-number .ensures) (c .before .before .before .before .before .if1 .left) (c .before .before .before .before .start .ensures) (c .before .before .before .end .ensures) (c .before .before .pair .ensures) (c .enum-told .given .1)
+returns-3 c =
+    let b = c .before .before .before .before in
+    pair-out _ (b .before .before .is-number .ensures) (b .before .if1 .left) (b .pair .ensures) (c .before .before .answer .given .1) (c .lesser .ensures)
 
 pub pair-range-spec : {M : Type 1} → statement M
-pair-range-spec = tie.close (tie.spec (λ c κs. search shapes) returns (λ c κs. search shapes) (λ c κs. search shapes) (λ c κs. search shapes) (λ c. search shapes) (λ c. search shapes) (λ c κs. search shapes) returns-2 returns-3)
+pair-range-spec =
+    tie.close
+    (tie.spec
+    (λ c κs. search shapes)
+    (λ c. search (shapes, pair-none))
+    (λ c κs. search (shapes, number-node))
+    (λ c. search shapes)
+    (λ c. search shapes)
+    (λ c κs. search shapes)
+    (λ c. search (shapes, pair-in))
+    returns-3)
