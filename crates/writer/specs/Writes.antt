@@ -1,4 +1,4 @@
--- What a writer tells of a lent sheet. A place in the sheet is a cursor, which may lie past the sheet's end: what does not fit is counted and not written. Assumes nothing: these are definitions.
+-- What a writer tells of a lent sheet. A place in the sheet is a cursor, which may lie past the sheet's end: what does not fit is counted, and whoever asked for it clears the sheet.
 use mathlib.Core.Path.{_≡_}
 use mathlib.Core.List.{List}
 use Prim.Native.Nat.{ℕ, _+_, _-_, _^_, _≤_, _<_, min}
@@ -7,12 +7,18 @@ use lib.Seq.{sets}
 use lib.IntN.{ℤ, pos, negsuc}
 use Rattle.model.specs.Model.{layRec, rec}
 
--- The bytes ws were to be written from `to` on, and the cursor is r afterwards. Cursors from 2^63 on are all alike. The sheet was d₀ and is d: if the bytes fit, they were set there, one after the other.
+-- The bytes ws were to be written from `to` on, and the cursor is r afterwards. Cursors from 2^63 on are all alike.
+-- The sheet was d₀ and is d: if the bytes fit, they were set there, one after the other. If they do not, a part of them may have been set: d is then free, but for its length.
 pub record Writes (ws d₀ d : List ℕ) (to r : ℕ) : Type 0 where
   pub ends : min r (2 ^ 63) ≡ min (to + length ws) (2 ^ 63)
   pub onward : to ≤ r
   pub room : length d ≡ length d₀
   pub wrote : to + length ws ≤ length d₀ → to + length ws < 2 ^ 63 → d ≡ sets d₀ to ws
+
+-- the same of a number or a string, of which nothing is set if it does not fit
+pub record Puts (ws d₀ d : List ℕ) (to r : ℕ) : Type 0 where
+  pub writes : Writes ws d₀ d to r
+  pub kept : length d₀ < to + length ws → d ≡ d₀
 
 -- the cursor r is n past `to`
 pub record Skips (n to r : ℕ) : Type 0 where

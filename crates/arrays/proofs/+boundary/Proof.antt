@@ -46,7 +46,7 @@ module _ (t : ℕ) where
   returns c = nest-leaf _ (c .before .before .before .before .if1 .taken) (c .before .before .index .ensures)
 
   returns-2 : lts.Need-returns-2 (calls t) (now-at t) reads.Post Inv μ-loop
-  returns-2 c = nest-none _ (c .before .before .before .before .before .before .if1 .left) (c .before .before .before .before .before .is-array .ensures) (c .before .before .before .before .if2 .taken) (c .before .before .put4 .ensures)
+  returns-2 c = nest-none _ (c .before .before .before .before .before .before .if1 .left) (c .before .before .before .before .before .is-array .ensures) (c .before .before .before .before .if2 .taken) (c .before .before .put4 .ensures .writes)
 
   index-requires-2 : lts.Need-index-requires-2 (calls t) (now-at t) reads.Post Inv μ-loop
   index-requires-2 c κs = leaf Index _ (laying-item (c .before .before .before .loop .inv .0) (c .before .before .loop-test .taken)) (omega (arith, c .before .if3 .taken))
@@ -72,7 +72,7 @@ module _ (t : ℕ) where
   )
 
   returns-3 : lts.Need-returns-3 (calls t) (now-at t) reads.Post Inv μ-loop
-  returns-3 c = nest-array _ (c .before .before .before .before .before .before .before .before .before .before .if1 .left) (counting-done (c .before .before .before .before .before .loop .inv .1) (c .before .before .before .before .loop-test .left)) (c .before .before .before .before .before .before .skip .ensures) (laying-done (c .before .before .before .before .before .loop .inv .0) (c .before .before .before .before .loop-test .left)) (c .before .before .put42 .ensures)
+  returns-3 c = nest-array _ (c .before .before .before .before .before .before .before .before .before .before .if1 .left) (counting-done (c .before .before .before .before .before .loop .inv .1) (c .before .before .before .before .loop-test .left)) (c .before .before .before .before .before .before .skip .ensures) (laying-done (c .before .before .before .before .before .loop .inv .0) (c .before .before .before .before .loop-test .left)) (c .before .before .put42 .ensures .writes)
 
 pub +boundary-spec : {M : Type 1} → statement M
 +boundary-spec = close μ λ t. lts.spec (calls t) (now-at t) reads.Post Inv μ-loop (λ c κs. search arrays) (λ c. search arrays) (returns t) (λ c κs. search arrays) (λ c κs. search arrays) (λ c. search arrays) (returns-2 t) (λ c κs. search arrays) (λ c κs. search arrays) (λ c. search arrays) (λ c. search arrays) (index-requires-2 t) (sub-boundary t) (boundary-requires t) (λ c. search arrays) (next-requires-2 t) (λ c. search arrays) (loop-again t) (λ c κs. search arrays) (λ c. search arrays) (returns-3 t)

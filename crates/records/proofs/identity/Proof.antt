@@ -11,7 +11,7 @@ returns : tie.Need-returns
 unfolding ascii
 returns c =
     identity-wrote (seeks-find "type" refl (c .before .before .before .before .before .before .before .before .before .before .before .before .before .before .before .before .member .ensures)) (c .before .before .before .before .before .before .before .before .before .before .before .before .before .before .before .object-code .ensures) (c .before .before .before .before .before .before .before .before .before .before .before .before .before .before .start .ensures) (c .before .before .before .before .before .before .before .before .before .before .before .before .before .end .ensures)
-    (c .before .before .before .before .before .before .before .before .before .before .put2 .ensures) (c .before .before .before .before .before .before .string .ensures) (c .before .before .close .ensures)
+    (c .before .before .before .before .before .before .before .before .before .before .put2 .ensures .writes) (c .before .before .before .before .before .before .string .ensures .writes) (c .before .before .close .ensures)
 
 pub identity-spec : {M : Type 1} → statement M
 identity-spec =
