@@ -47,7 +47,11 @@ low-if false m n p q = q
 escaped-low : (b : ℕ) → b < 128 → escaped b < 128
 unfolding escaped
 escaped-low b h =
-    low-if (eqb b 98) 8 _ (omega arith) (low-if (eqb b 102) 12 _ (omega arith) (low-if (eqb b 110) 10 _ (omega arith) (low-if (eqb b 114) 13 _ (omega arith) (low-if (eqb b 116) 9 b (omega arith) h))))
+    low-if (eqb b 98) 8 _ (omega arith)
+    (low-if (eqb b 102) 12 _ (omega arith)
+    (low-if (eqb b 110) 10 _ (omega arith)
+    (low-if (eqb b 114) 13 _ (omega arith)
+    (low-if (eqb b 116) 9 b (omega arith) h))))
 
 -- a byte more before what is whole, and one less after
 shift : (b : ℕ) (pre s : List ℕ) → Whole ((pre ++ b ∷ []) ++ s) → Whole (pre ++ b ∷ s)
