@@ -13,6 +13,7 @@ use Rattle.model.specs.Model.{layRec, layThree, layDecimal, minorCode, lodCode,
 use Rattle.model.specs.Read.{orNull, get, zeroIfNone, decimalOf, times, integerOf, natural, indexOf, valueOf, threeOf, nestOf, minorOf, lodOf, surfaceNamed, surfaceOf, semanticsOf, geometryOf, objectOf}
 use Rattle.model.specs.Read as read
 use Rattle.verdict.specs.Verdict.{accepted, verdict}
+use Rattle.sheets.specs.Characters.{WholeTexts, whole-model}
 use Rattle.sheets.specs.Laid.{Answer, laid, refused, answer, modelOfText, sheetOfText, roomAfter}
 
 -- opening this opens all that an answer and a sheet need
@@ -68,7 +69,7 @@ house =
     ++ 0xC3 ∷ 0xBC ∷ ascii "\":{\"type\":\"CityFurniture\"}},\"vertices\":[]}"
 
 -- it is accepted
-pub house-accepted : verdict house ≡ accepted 1
+house-accepted : verdict house ≡ accepted 1
 unfolding lays house
 house-accepted = refl
 
@@ -76,6 +77,10 @@ house-accepted = refl
 house-id : idsOf (modelOfText house .objects) ≡ (0xC3 ∷ 0xA9 ∷ 0xF0 ∷ 0x9F ∷ 0x8F ∷ 0xA0 ∷ 0xC3 ∷ 0xBC ∷ []) ∷ []
 unfolding lays house
 house-id = refl
+
+-- as follows from its acceptance, it is whole characters
+house-whole : WholeTexts (modelOfText house)
+house-whole = whole-model house 1 house-accepted
 
 -- a refusal clears the room
 cleared : roomAfter (ascii "{}") 3 ≡ 0 ∷ 0 ∷ 0 ∷ []
