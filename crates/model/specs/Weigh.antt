@@ -25,7 +25,7 @@ all-two : {A : Type 0} {P Q R : A → Type 0} → ((a : A) → P a → Q a → R
 all-two f [] g h = tt
 all-two f (a ∷ l) g h = (f a (g .0) (h .0), all-two f l (g .1) (h .1))
 
-all-append : {A : Type 0} (P : A → Type 0) (l m : List A) → All P l → All P m → All P (l ++ m)
+pub all-append : {A : Type 0} (P : A → Type 0) (l m : List A) → All P l → All P m → All P (l ++ m)
 all-append P [] m g h = h
 all-append P (a ∷ l) m g h = (g .0, all-append P l m (g .1) h)
 

@@ -26,7 +26,7 @@ use Rattle.sheets.specs.Faultless.{model-good}
 -- ---- accepted texts
 
 -- the tree of a text that is read
-tree-is : (x : List ℕ) (v : Json) → read x ≡ reads v → treeOf x ≡ v
+pub tree-is : (x : List ℕ) (v : Json) → read x ≡ reads v → treeOf x ≡ v
 unfolding treeOf
 tree-is x v e = ap treeIn e
 

@@ -3,10 +3,11 @@ use Prim.Native.Nat.{ℕ}
 use Prim.Native.String.{String}
 use mathlib.Core.Path.{_≡_, refl, sym, subst, _∙_}
 use mathlib.Core.Bool.{Bool, true, false, cond, not, _||_}
-use mathlib.Core.List.{List, [], _∷_, _++_, map}
+use mathlib.Core.List.{List, [], _∷_, map}
 use mathlib.Core.Option.{Option, some}
 use mathlib.Core.Option as option
 use lib.ListN.{length, length-map}
+pub use Rattle.utf8.specs.Laws.{nil-left, nil-right}
 use Rattle.json.specs.Tree.{Json, null}
 use Rattle.nodes.specs.Access.{isNumberValue, isStringValue, isObjectValue, elements, members, textOf, numeralOf, find}
 use Rattle.shapes.specs.Checks.{Check, unless, all, on, at, forEach, each, isObject, isString, isArray, isSome, needs, text, numeral}
@@ -16,16 +17,6 @@ use Rattle.model.specs.Code.{All}
 use Rattle.model.specs.Read.{orNull, get}
 
 -- ---- lists with no element
-
--- the first of two lists that join to the empty one
-pub nil-left : {A : Type 0} (l m : List A) → l ++ m ≡ [] → l ≡ []
-nil-left [] m e = refl
-nil-left (a ∷ l) m e = cc
-
--- the second of them
-pub nil-right : {A : Type 0} (l m : List A) → l ++ m ≡ [] → m ≡ []
-nil-right [] m e = e
-nil-right (a ∷ l) m e = cc
 
 -- an empty list where the test passes
 pub cond-left : (b : Bool) (l m : List ℕ) → b ≡ true → cond b l m ≡ [] → l ≡ []

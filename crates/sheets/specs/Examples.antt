@@ -12,7 +12,9 @@ use Rattle.model.specs.Code.{le, signed, each}
 use Rattle.model.specs.Model.{layRec, layThree, layDecimal, minorCode, lodCode, layNest, layValue, layValues, laySurface, surfaceRecs, semanticsRecs, geometryRecs, objectRecs, modelRecs, layModel, numberOf, idsOf, numberObject, numberModel}
 use Rattle.model.specs.Read.{orNull, get, zeroIfNone, decimalOf, times, integerOf, natural, indexOf, valueOf, threeOf, nestOf, minorOf, lodOf, surfaceNamed, surfaceOf, semanticsOf, geometryOf, objectOf}
 use Rattle.model.specs.Read as read
-use Rattle.sheets.specs.Laid.{Answer, laid, refused, answer, sheetOfText, roomAfter}
+use Rattle.verdict.specs.Verdict.{accepted, verdict}
+use Rattle.sheets.specs.Characters.{WholeTexts, whole-model}
+use Rattle.sheets.specs.Laid.{Answer, laid, refused, answer, modelOfText, sheetOfText, roomAfter}
 
 -- opening this opens all that an answer and a sheet need
 unfoldable pub lays : List ℕ → ℕ → Answer
@@ -58,6 +60,27 @@ minimal-after = refl
 kiosk : lays (ascii "{\"type\":\"CityJSON\",\"version\":\"2.0\",\"transform\":{\"scale\":[0.001,0.001,0.001],\"translate\":[0.0,0.0,0.0]},\"CityObjects\":{\"kiosk\":{\"type\":\"CityFurniture\",\"geometry\":[{\"type\":\"MultiPoint\",\"lod\":\"1\",\"boundaries\":[0]}]}},\"vertices\":[[10,-20,30]]}") 65536 ≡ laid 133 1
 unfolding lays
 kiosk = refl
+
+-- a text with an ID written by \u00e9, by the pair \ud83c\udfe0, and by the two bytes of U+00FC
+unfoldable pub house : List ℕ
+unfolding ascii
+house =
+    ascii "{\"type\":\"CityJSON\",\"version\":\"2.0\",\"transform\":{\"scale\":[1,1,1],\"translate\":[0,0,0]},\"CityObjects\":{\"\\u00e9\\ud83c\\udfe0"
+    ++ 0xC3 ∷ 0xBC ∷ ascii "\":{\"type\":\"CityFurniture\"}},\"vertices\":[]}"
+
+-- it is accepted
+house-accepted : verdict house ≡ accepted 1
+unfolding lays house
+house-accepted = refl
+
+-- and the ID is U+00E9, U+1F3E0 and U+00FC in UTF-8
+house-id : idsOf (modelOfText house .objects) ≡ (0xC3 ∷ 0xA9 ∷ 0xF0 ∷ 0x9F ∷ 0x8F ∷ 0xA0 ∷ 0xC3 ∷ 0xBC ∷ []) ∷ []
+unfolding lays house
+house-id = refl
+
+-- as follows from its acceptance, it is whole characters
+house-whole : WholeTexts (modelOfText house)
+house-whole = whole-model house 1 house-accepted
 
 -- a refusal clears the room
 cleared : roomAfter (ascii "{}") 3 ≡ 0 ∷ 0 ∷ 0 ∷ []

@@ -4,7 +4,9 @@ pub mod Clear
 pub mod Numbers
 pub mod Short
 pub mod Faultless
+pub mod Quoted
 pub mod Answers
+pub mod Characters
 pub mod Theorems
 pub mod Examples
 pub mod Starred

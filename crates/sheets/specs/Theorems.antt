@@ -1,10 +1,14 @@
 -- What is proved of lay's answers and of the lent sheet, for texts and rooms of any sizes (document 01, demand 3 and "Town and sheet"). Assumes nothing.
 use Prim.Native.Nat.{ℕ, _-_, _^_, _≤_, _<_}
 use mathlib.Core.Path.{_≡_, sym, ap, _∙_}
-use mathlib.Core.List.{List, _++_}
+use mathlib.Core.List.{List, _++_, List·Memᴰ}
 use mathlib.Core.Logic.{_≢_, _↔_}
 use lib.ListN.{length, take, replicate, length-map}
+use Rattle.utf8.specs.Utf8.{Whole}
+use Rattle.strings.specs.Strings.{decode}
+use Rattle.json.specs.Tree.{Name}
 use Rattle.nodes.specs.Access.{members}
+use Rattle.everywhere.specs.Everywhere.{strings}
 use Rattle.verdict.specs.Verdict.{accepted, verdict}
 use Rattle.model.specs.Model.{sheetOf}
 use Rattle.model.specs.Good.{GoodModel}
@@ -13,6 +17,7 @@ use Rattle.model.specs.Demand.{same-sheet-same-model, Begins, neither-begins}
 use Rattle.model.specs.Alike.{Alike, alike-same-model}
 use Rattle.sheets.specs.Laid.{treeOf, modelOfText, sheetOfText, laid, refused, answer, roomAfter}
 use Rattle.sheets.specs.Clear.{objects-members}
+use Rattle.sheets.specs.Characters.{WholeTexts, whole-strings, whole-model}
 use Rattle.sheets.specs.Answers.{good-text, object-count, of-laid, holds-sheet, begins-sheet, holds-zeros, room-length, same-answer, same-room, too-long, does-not-fit}
 
 -- an accepted text's model is as document 01 asks (rules 10, 12, 13 and 15), and its sheet is shorter than 2^32 bytes
@@ -23,6 +28,14 @@ good = good-text
 pub count : (x : List ℕ) (n : ℕ) → verdict x ≡ accepted n → n ≡ length (modelOfText x .objects)
 unfolding modelOfText modelOf
 count x n e = object-count x n e ∙ ap length (objects-members (treeOf x)) ∙ sym (length-map (members (get "CityObjects" (treeOf x))) objectOf)
+
+-- every string and every name of an accepted text stands for whole characters in UTF-8
+pub decoded : (x : List ℕ) (n : ℕ) → verdict x ≡ accepted n → (s : Name) → List·Memᴰ s (strings (treeOf x)) → Whole (decode (s .raw))
+decoded = whole-strings
+
+-- so the IDs, the links and the added names of surfaces in its model are whole characters
+pub texts : (x : List ℕ) (n : ℕ) → verdict x ≡ accepted n → WholeTexts (modelOfText x)
+texts = whole-model
 
 -- an acceptance gives the sheet's length, which is no more than the room and below 2^32, and the object count
 pub sizes : (x : List ℕ) (r l n : ℕ) → answer x r ≡ laid l n → (l ≡ length (sheetOfText x)) × (l ≤ r) × (l < 2 ^ 32) × (n ≡ length (modelOfText x .objects))

@@ -4,3 +4,4 @@ pub mod Examples
 pub mod Spans
 pub mod Parts
 pub mod Laws
+pub mod Characters

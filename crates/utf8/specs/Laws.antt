@@ -3,7 +3,7 @@ use Prim.Native.Nat.{ℕ, zero, suc, _+_, _*_, _/_, _%_, _≤_, _<_}
 use native.Mathlib.Omega.{arith}
 use mathlib.Core.Path.{_≡_, refl, sym, _∙_, ap, subst}
 use mathlib.Core.Bool.{Bool, true, false, cond, _&&_, _||_}
-use mathlib.Core.List.{List, [], _∷_}
+use mathlib.Core.List.{List, [], _∷_, _++_}
 use mathlib.Core.Logic.{_⊎_, inl, inr, ⊎-elim}
 use lib.ListN.{length, take, drop, getD}
 use lib.Seq.{length-take-le, take-all, take-length, getD-take}
@@ -36,6 +36,16 @@ neither false b e = (refl, e)
 pub unless : (b : Bool) → (b ≡ true → ⊥) → b ≡ false
 unless true n = absurd (n refl)
 unless false n = refl
+
+-- the first of two lists that join to the empty one
+pub nil-left : {A : Type 0} (l m : List A) → l ++ m ≡ [] → l ≡ []
+nil-left [] m e = refl
+nil-left (a ∷ l) m e = clash cc
+
+-- the second of them
+pub nil-right : {A : Type 0} (l m : List A) → l ++ m ≡ [] → m ≡ []
+nil-right [] m e = e
+nil-right (a ∷ l) m e = clash cc
 
 -- `same` tells equality
 pub same-equal : (x y : List ℕ) → same x y ≡ true → x ≡ y

@@ -4,5 +4,6 @@ pub mod Utf8
 pub mod Says
 pub mod Laws
 pub mod Meaning
+pub mod Splits
 pub mod Examples
 pub mod Finite
