@@ -11,7 +11,7 @@ use borrow.Author.Tests.{leb-true, leb-false, lt-leb, ltb-true}
 use Rattle.utf8.specs.Utf8.{wholeLength}
 use Rattle.utf8.specs.Laws.{clash}
 use Rattle.json.specs.Tree.{Json}
-use Rattle.json.specs.Machine.{Outcome, reads, bad, tooDeep, read}
+use Rattle.json.specs.Machine.{Outcome, reads, bad, tooDeep, read, treeIn, treeOf}
 use Rattle.nodes.specs.Faults.{ruleOf, placeIn, least, none}
 use Rattle.fields.specs.Fields.{objectsOf}
 use Rattle.verdict.specs.Verdict.{Verdict, accepted, faults, given, judged, parsed, verdict}
@@ -19,7 +19,7 @@ use Rattle.verdict.specs.Verdict as judge
 use Rattle.verdict.specs.Exact.{Clean, accepted-clean}
 use Rattle.model.specs.Good.{GoodModel}
 use Rattle.model.specs.Size.{size}
-use Rattle.sheets.specs.Laid.{treeIn, treeOf, modelOfText, sheetOfText, Answer, laid, refused, fitted, answer, filled, roomAfter}
+use Rattle.sheets.specs.Laid.{modelOfText, sheetOfText, Answer, laid, refused, fitted, answer, filled, roomAfter}
 use Rattle.sheets.specs.Short.{tree-within}
 use Rattle.sheets.specs.Faultless.{model-good}
 

@@ -4,6 +4,7 @@ use mathlib.Core.Path.{_≡_, sym, ap, _∙_}
 use mathlib.Core.List.{List, _++_}
 use mathlib.Core.Logic.{_≢_, _↔_}
 use lib.ListN.{length, take, replicate, length-map}
+use Rattle.json.specs.Machine.{treeOf}
 use Rattle.nodes.specs.Access.{members}
 use Rattle.verdict.specs.Verdict.{accepted, verdict}
 use Rattle.model.specs.Model.{sheetOf}
@@ -11,7 +12,7 @@ use Rattle.model.specs.Good.{GoodModel}
 use Rattle.model.specs.Read.{get, objectOf, modelOf}
 use Rattle.model.specs.Demand.{same-sheet-same-model, Begins, neither-begins}
 use Rattle.model.specs.Alike.{Alike, alike-same-model}
-use Rattle.sheets.specs.Laid.{treeOf, modelOfText, sheetOfText, laid, refused, answer, roomAfter}
+use Rattle.sheets.specs.Laid.{modelOfText, sheetOfText, laid, refused, answer, roomAfter}
 use Rattle.sheets.specs.Clear.{objects-members}
 use Rattle.sheets.specs.Answers.{good-text, object-count, of-laid, holds-sheet, begins-sheet, holds-zeros, room-length, same-answer, same-room, too-long, does-not-fit}
 
