@@ -8,6 +8,5 @@ pub mod Once
 pub mod Numbers
 pub mod Weigh
 pub mod Demand
-pub mod Worked
 pub mod Alike
 pub mod Size
