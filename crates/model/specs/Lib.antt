@@ -9,4 +9,5 @@ pub mod Numbers
 pub mod Weigh
 pub mod Demand
 pub mod Alike
+pub mod AlikeLaws
 pub mod Size
