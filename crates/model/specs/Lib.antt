@@ -10,4 +10,5 @@ pub mod Weigh
 pub mod Demand
 pub mod Alike
 pub mod AlikeLaws
+pub mod AlikeExamples
 pub mod Size
