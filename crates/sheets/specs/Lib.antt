@@ -7,4 +7,5 @@ pub mod Faultless
 pub mod Answers
 pub mod Theorems
 pub mod Examples
+pub mod AlikeExamples
 pub mod Starred
