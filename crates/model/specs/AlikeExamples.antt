@@ -12,7 +12,7 @@ use Rattle.strings.specs.Strings.{decode}
 use Rattle.numerals.specs.Numerals.{decimal}
 use Rattle.json.specs.Tree.{Json, _◂_, with}
 use Rattle.json.specs.Machine.{treeOf, step, wantStep, gotStep, nextStep, nameStep, mantStep, noughtStep, isBlank, isDigit, isHex, isEscape}
-use Rattle.nodes.specs.Access.{listed, elements, members, nameOf, textOf, find}
+use Rattle.nodes.specs.Access.{listed, elements, members, textOf, find}
 use Rattle.model.specs.Model.{Three}
 use Rattle.model.specs.Read.{get, orNull, numberOf, zeroIfNone, decimalOf, times, integerOf, natural, threeOf, modelOf}
 use Rattle.model.specs.Alike.{Same, Agree, surfaceShape, semanticsShape, geometryShape, objectShape, transformShape, rootShape, Alike, same-text, alike-same-model}

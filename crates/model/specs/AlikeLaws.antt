@@ -1,12 +1,12 @@
--- A tree that keeps rule 6 is alike to itself, and to whatever is alike to it the other way round.
--- Without rule 6 neither holds: {"a":1,"a":2} is not alike to itself, and {"a":1,"a":1} matches {"a":1,"b":2} but not the other way round.
+-- A tree that keeps rule 6 is alike to itself, and what it is alike to is alike to it.
+-- Of values with repeated names neither holds: {"a":1,"a":2} does not agree with itself, and {"a":1,"a":1} agrees with {"a":1,"b":2}, but not that with it.
 use mathlib.Core.Path.{_≡_, refl, sym, ap, _∙_, subst}
-use mathlib.Core.List.{List, [], _∷_, _++_, append-eq-nil-iff}
-use mathlib.Core.Bool.{Bool, true, false, cond, _||_}
+use mathlib.Core.List.{List, [], _∷_, append-eq-nil-iff}
+use mathlib.Core.Bool.{Bool, true, false, cond, or-true}
 use mathlib.Core.Option.{Option, some}
 use mathlib.Core.Option as option
 use mathlib.Core.Logic.{_⊎_, inl, inr, ⊎-elim}
-use Prim.Native.Nat.{ℕ, zero, suc}
+use Prim.Native.Nat.{ℕ, suc}
 use native.Mathlib.Omega.{arith}
 use lib.ListN.{length}
 use Rattle.utf8.specs.Utf8.{same}
@@ -56,15 +56,11 @@ not-later earlier (member k v ms) e w a =
     let (h, r) = append-eq-nil-iff {p = cond (among earlier (decode (k .raw))) (k .place ∷ []) []} .0 e in
     let n : (w ≡ decode (k .raw)) → ⊥ = λ q. go (among earlier (decode (k .raw))) (rw q at a) h in
     rw (unless (same w (decode (k .raw))) (λ t. n (same-equal w (decode (k .raw)) t)))
-    (not-later (decode (k .raw) ∷ earlier) ms r w (right (same (decode (k .raw)) w) (among earlier w) a))
+    (not-later (decode (k .raw) ∷ earlier) ms r w (rw a (or-true (same (decode (k .raw)) w))))
   where
     go : (b : Bool) → b ≡ true → cond b (k .place ∷ []) [] ≡ [] → ⊥
     go true t q = clash cc
     go false t q = clash cc
-
-    right : (a b : Bool) → b ≡ true → (a || b) ≡ true
-    right true b t = refl
-    right false b t = t
 
 distinct : (earlier : List (List ℕ)) (ms : Members) → repeated earlier ms ≡ [] → Distinct (pairs ms)
 unfolding repeated pairs nameOf among

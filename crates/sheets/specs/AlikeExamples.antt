@@ -2,7 +2,7 @@
 use Prim.Native.Nat.{ℕ}
 use mathlib.Core.Path.{_≡_, refl}
 use Rattle.verdict.specs.Verdict.{accepted, verdict}
-use Rattle.model.specs.AlikeExamples.{bare, bare-respelled, town, town-respelled, bare-alike, town-alike}
+use Rattle.model.specs.AlikeExamples.{bare, bare-respelled, town, town-respelled, town-alike}
 use Rattle.sheets.specs.Laid.{laid, answer, roomAfter}
 use Rattle.sheets.specs.Examples.{lays}
 use Rattle.sheets.specs.Theorems.{alike-rooms}

@@ -1,7 +1,7 @@
 -- What lay answers for a text and a lent sheet, and what the sheet then holds (document 01, "Verdict and place" and "Town and sheet"). Assumes nothing: these are definitions.
 use Prim.Native.Nat.{ℕ, _-_}
 use mathlib.Core.Bool.{cond}
-use mathlib.Core.List.{List, [], _++_}
+use mathlib.Core.List.{List, _++_}
 use lib.ListN.{length, replicate}
 use lib.Dec.{leb}
 use Rattle.json.specs.Machine.{treeOf}
