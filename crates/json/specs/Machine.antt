@@ -204,3 +204,13 @@ module _ (most : ℕ) (text : List ℕ) where
 unfoldable pub read : List ℕ → Outcome
 unfolding run
 read text = run 32 text want [] 0 text
+
+-- the tree of a text; what it is for a text that is not JSON matters nowhere
+unfoldable pub treeIn : Outcome → Json
+treeIn (reads v) = v
+treeIn (bad n) = null 0 0
+treeIn (tooDeep n) = null 0 0
+
+unfoldable pub treeOf : List ℕ → Json
+unfolding treeIn read
+treeOf text = treeIn (read text)

@@ -7,7 +7,7 @@ use lib.ListN.{length, replicate, length-replicate}
 use borrow.Author.Needs.{needs}
 use borrow.Author.Tests.{le-leb, lt-leb}
 use Rattle.json.specs.Tree.{Json}
-use Rattle.json.specs.Machine.{read, reads}
+use Rattle.json.specs.Machine.{read, reads, treeIn, treeOf}
 use Rattle.json.specs.Table.{Sub}
 use Rattle.everywhere.specs.Everywhere.{rule5, rule6}
 use Rattle.nodes.specs.Faults.{fault, none}
@@ -23,7 +23,7 @@ use Rattle.verdict.specs.Verdict.{faults, parsed}
 use Rattle.verdict.specs.Places.{early}
 use Rattle.sheets.specs.Clear.{nil-left, nil-right}
 use Rattle.sheets.specs.Short.{tree-within}
-use Rattle.sheets.specs.Laid.{treeIn, treeOf, modelOfText, sheetOfText, fitted, filled, answer, roomAfter}
+use Rattle.sheets.specs.Laid.{modelOfText, sheetOfText, fitted, filled, answer, roomAfter}
 use Rattle.sheets.specs.Laid as laid
 use Rattle.writer.specs.Writes.{Writes}
 use Rattle.writer.specs.Laws.{whole-sheet}

@@ -89,7 +89,8 @@ Alike = Agree rootShape
 
 -- ---- the law
 
-same-text : (j k : Json) → Same j k → textOf j ≡ textOf k
+-- values that agree have one text
+pub same-text : (j k : Json) → Same j k → textOf j ≡ textOf k
 unfolding Same textOf
 same-text (null p e) k s = sym (ap textOf (s .2))
 same-text (bool p e b) k s = sym (ap textOf (s .2))

@@ -8,6 +8,7 @@ pub mod Once
 pub mod Numbers
 pub mod Weigh
 pub mod Demand
-pub mod Worked
 pub mod Alike
+pub mod AlikeLaws
+pub mod AlikeExamples
 pub mod Size

@@ -119,11 +119,16 @@ objectRecs o =
     ∷ rec 5 (each (le 4) (o .parents))
     ∷ each geometryRecs (o .geometries)
 
+-- the sheet ends with this
+unfoldable pub endRecs : List Rec
+endRecs = rec 9 [] ∷ []
+
 unfoldable pub modelRecs : ModelOf ℕ → List Rec
+unfolding endRecs
 modelRecs t =
     rec 1 (layThree layDecimal (t .scale) ++ layThree layDecimal (t .translate))
     ∷ rec 2 (each (layThree (signed 4)) (t .vertices))
-    ∷ (each objectRecs (t .objects) ++ rec 9 [] ∷ [])
+    ∷ (each objectRecs (t .objects) ++ endRecs)
 
 unfoldable pub layModel : ModelOf ℕ → List ℕ
 layModel t = each layRec (modelRecs t)

@@ -12,7 +12,7 @@ use lib.IntN.{ℤ}
 use Rattle.model.specs.Code.{le, signed, each, All, Holds, Until, Unique, le-unique, signed-unique, each-until, each-same, each-inj, le-full, signed-full}
 use Rattle.words.specs.Words.{depth, valuesDepth}
 use Rattle.model.specs.Model.{Nest, Three, Lod, Surface, listed, added, Semantics, Geometry, Rec, rec}
-use Rattle.model.specs.Model.{layRec, layThree, layDecimal, minorCode, lodCode, layNest, layValue, layValues, laySurface, surfaceRecs, semanticsRecs, geometryRecs, objectRecs, modelRecs, layModel}
+use Rattle.model.specs.Model.{layRec, layThree, layDecimal, minorCode, lodCode, layNest, layValue, layValues, laySurface, surfaceRecs, semanticsRecs, geometryRecs, objectRecs, endRecs, modelRecs, layModel}
 use Rattle.model.specs.Good.{AllThree, GoodMinor, GoodLod, Leaves, Both, Shaped}
 use Rattle.model.specs.Fits.{Word, FitDecimal, FitNest, FitValue, FitSurface, FitSemantics, FitGeometry, FitObject, FitRec, FitModel}
 
@@ -213,12 +213,12 @@ unfolding modelRecs oneOf
 model-unique a b ga gb x y e =
     let six : layThree layDecimal (a .scale) ++ layThree layDecimal (a .translate) ≡ layThree layDecimal (b .scale) ++ layThree layDecimal (b .translate) = cc in
     let points : each (layThree (signed 4)) (a .vertices) ≡ each (layThree (signed 4)) (b .vertices) = cc in
-    let rest : each objectRecs (a .objects) ++ rec 9 [] ∷ [] ++ x ≡ each objectRecs (b .objects) ++ rec 9 [] ∷ [] ++ y = cc in
+    let rest : (each objectRecs (a .objects) ++ endRecs) ++ x ≡ (each objectRecs (b .objects) ++ endRecs) ++ y = cc in
     let three = three-unique FitDecimal layDecimal decimal-unique in
     let s = three (a .scale) (b .scale) (ga .scale) (gb .scale) _ _ six in
     let t = three (a .translate) (b .translate) (ga .translate) (gb .translate) [] [] (ap (λ k. k ++ []) (s .1)) in
     let v = vertices-inj (a .vertices) (b .vertices) (ga .vertices) (gb .vertices) points in
-    let o = objects-until (a .objects) (b .objects) (ga .objects) (gb .objects) (rec 9 [] ∷ x) (rec 9 [] ∷ y) tt tt (simp append-assoc at rest) in
+    let o = objects-until (a .objects) (b .objects) (ga .objects) (gb .objects) (endRecs ++ x) (endRecs ++ y) tt tt (simp append-assoc at rest) in
     (λ i. record { scale = s .0 i; translate = t .0 i; vertices = v i; objects = o .0 i }, cc)
 
 split-same : (p q : List ℕ) → length p ≡ length q → (x y : List ℕ) → p ++ x ≡ q ++ y → (p ≡ q) × (x ≡ y)

@@ -16,7 +16,7 @@ use Rattle.words.specs.Words.{depth, valuesDepth}
 use Rattle.model.specs.Model.{Three, Model, Rec, rec}
 use Rattle.model.specs.Model as Model
 use Rattle.utf8.specs.Utf8.{same}
-use Rattle.model.specs.Model.{layRec, layThree, layDecimal, lodCode, layNest, layValue, layValues, laySurface, surfaceRecs, semanticsRecs, geometryRecs, objectRecs, modelRecs, layModel, numberObject, numberModel, idsOf, sheetOf}
+use Rattle.model.specs.Model.{layRec, layThree, layDecimal, lodCode, layNest, layValue, layValues, laySurface, surfaceRecs, semanticsRecs, geometryRecs, objectRecs, endRecs, modelRecs, layModel, numberObject, numberModel, idsOf, sheetOf}
 use Rattle.utf8.specs.Ascii.{ascii}
 use Rattle.words.specs.Words.{codeOf, surfaceWords}
 use Rattle.strings.specs.Strings.{decode}
@@ -299,6 +299,10 @@ number-map : (ids : List (List ℕ)) (l : List Member) → map (numberObject ids
 number-map ids [] = refl
 number-map ids (m ∷ l) = ap (λ r. numberObject ids (objectOf m) ∷ r) (number-map ids l)
 
+end-weight : weight endRecs ≡ 6
+unfolding endRecs weight each layRec le
+end-weight = refl
+
 pub sheet-short : (j : Json) → length (sheetOf (modelOf j)) ≤ 78 + 73 * size j
 unfolding sheetOf layModel modelRecs numberModel modelOf weight each
 sheet-short j =
@@ -311,10 +315,10 @@ sheet-short j =
     let objects = each objectRecs (map (numberObject ids) (map objectOf ms)) in
     omega (
       arith,
-      weight-cons 1 six (rec 2 points ∷ (objects ++ rec 9 [] ∷ [])),
-      weight-cons 2 points (objects ++ rec 9 [] ∷ []),
-      weight-append objects (rec 9 [] ∷ []),
-      weight-cons 9 [] [],
+      weight-cons 1 six (rec 2 points ∷ (objects ++ endRecs)),
+      weight-cons 2 points (objects ++ endRecs),
+      weight-append objects endRecs,
+      end-weight,
       length-append (layThree layDecimal (t .scale)) (layThree layDecimal (t .translate)),
       decimals-length (t .scale),
       decimals-length (t .translate),

@@ -11,7 +11,7 @@ use Rattle.model.specs.Code.{le, signed, each, All}
 use Rattle.numerals.specs.Numerals.{Decimal}
 use Rattle.words.specs.Words.{depth, valuesDepth}
 use Rattle.model.specs.Model.{Nest, Three, Surface, listed, added, Semantics, Geometry, Object, Model, ModelOf, Rec, rec}
-use Rattle.model.specs.Model.{layRec, layThree, lodCode, layNest, layValues, surfaceRecs, semanticsRecs, geometryRecs, objectRecs, modelRecs, layModel, sheetOf, numberOf, idsOf, numberObject, numberModel}
+use Rattle.model.specs.Model.{layRec, layThree, lodCode, layNest, layValues, surfaceRecs, semanticsRecs, geometryRecs, objectRecs, endRecs, modelRecs, layModel, sheetOf, numberOf, idsOf, numberObject, numberModel}
 use Rattle.model.specs.Good.{AllThree, Leaves, GoodDecimal, GoodSurface, GoodValue, GoodSemantics, GoodGeometry, Known, GoodObject, GoodModel}
 use Rattle.model.specs.Fits.{Word, Half, FitDecimal, FitNest, FitValue, FitSurface, FitSemantics, FitGeometry, FitObject, FitRec, FitModel}
 
@@ -200,7 +200,7 @@ object-kinds o = (omega arith, (omega arith, (omega arith, all-each Kind geometr
 
 model-kinds : (t : ModelOf ℕ) → All Kind (modelRecs t)
 unfolding modelRecs
-model-kinds t = (omega arith, (omega arith, all-append Kind (each objectRecs (t .objects)) (rec 9 [] ∷ []) (all-each Kind objectRecs object-kinds (t .objects)) (omega arith, tt)))
+model-kinds t = (omega arith, (omega arith, all-append Kind (each objectRecs (t .objects)) endRecs (all-each Kind objectRecs object-kinds (t .objects)) (omega arith, tt)))
 
 rec-fits : (r : Rec) → Kind r → length (layRec r) < 2 ^ 32 → FitRec r
 rec-fits (rec k p) h w = (h, omega (arith, length-rec k p))

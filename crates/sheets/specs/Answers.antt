@@ -3,7 +3,7 @@ use Prim.Native.Nat.{ℕ, _-_, _≤_, _<_}
 use native.Mathlib.Omega.{arith}
 use mathlib.Core.Path.{_≡_, refl, sym, ap, _∙_, subst}
 use mathlib.Core.Bool.{Bool, true, false, cond}
-use mathlib.Core.List.{List, _++_}
+use mathlib.Core.List.{List, [], _++_, map, map-eq-nil-iff}
 use lib.ListN.{length, take, replicate, length-append, length-replicate}
 use lib.Seq.{take-at}
 use lib.Dec.{ltb}
@@ -11,15 +11,19 @@ use borrow.Author.Tests.{leb-true, leb-false, lt-leb, ltb-true}
 use Rattle.utf8.specs.Utf8.{wholeLength}
 use Rattle.utf8.specs.Laws.{clash}
 use Rattle.json.specs.Tree.{Json}
-use Rattle.json.specs.Machine.{Outcome, reads, bad, tooDeep, read}
-use Rattle.nodes.specs.Faults.{ruleOf, placeIn, least, none}
+use Rattle.json.specs.Machine.{Outcome, reads, bad, tooDeep, read, treeIn, treeOf}
+use Rattle.nodes.specs.Faults.{fault, ruleOf, placeIn, least, none}
+use Rattle.everywhere.specs.Everywhere.{rule5, rule6}
 use Rattle.fields.specs.Fields.{objectsOf}
+use Rattle.schema.specs.Schema.{cityJson}
+use Rattle.links.specs.Links.{linkFaults}
 use Rattle.verdict.specs.Verdict.{Verdict, accepted, faults, given, judged, parsed, verdict}
 use Rattle.verdict.specs.Verdict as judge
 use Rattle.verdict.specs.Exact.{Clean, accepted-clean}
 use Rattle.model.specs.Good.{GoodModel}
 use Rattle.model.specs.Size.{size}
-use Rattle.sheets.specs.Laid.{treeIn, treeOf, modelOfText, sheetOfText, Answer, laid, refused, fitted, answer, filled, roomAfter}
+use Rattle.sheets.specs.Laid.{modelOfText, sheetOfText, Answer, laid, refused, fitted, answer, filled, roomAfter}
+use Rattle.sheets.specs.Clear.{nil-left, nil-right}
 use Rattle.sheets.specs.Short.{tree-within}
 use Rattle.sheets.specs.Faultless.{model-good}
 
@@ -29,6 +33,11 @@ use Rattle.sheets.specs.Faultless.{model-good}
 pub tree-is : (x : List ℕ) (v : Json) → read x ≡ reads v → treeOf x ≡ v
 unfolding treeOf
 tree-is x v e = ap treeIn e
+
+-- a tree with no fault keeps rule 6
+names-differ : (v : Json) → faults v ≡ [] → rule6 v ≡ []
+unfolding faults
+names-differ v e = map-eq-nil-iff (fault 6) .0 (nil-right (map (fault 5) (rule5 v)) _ (nil-left _ (cityJson v) (nil-left _ (linkFaults v) e)))
 
 module _ (x : List ℕ) (n : ℕ) (e : verdict x ≡ accepted n) where
   -- its tree has no fault
@@ -43,6 +52,10 @@ module _ (x : List ℕ) (n : ℕ) (e : verdict x ≡ accepted n) where
   pub good-text : GoodModel (modelOfText x)
   unfolding modelOfText
   good-text = rw (tree-is x (clean-tree .value) (clean-tree .reads)) (model-good (clean-tree .value) tree-short (clean-tree .clean))
+
+  -- no name is repeated in an object
+  pub distinct-names : rule6 (treeOf x) ≡ []
+  distinct-names = rw (tree-is x (clean-tree .value) (clean-tree .reads)) (names-differ (clean-tree .value) (clean-tree .clean))
 
   -- its object count
   pub object-count : n ≡ length (objectsOf (treeOf x))

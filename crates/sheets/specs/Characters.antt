@@ -33,7 +33,8 @@ use Rattle.model.specs.Code.{All}
 use Rattle.model.specs.Model.{Surface, added, Semantics, Object, Model}
 use Rattle.model.specs.Model as model
 use Rattle.model.specs.Read.{orNull, get, surfaceNamed, surfaceOf, semanticsOf, geometryOf, objectOf, modelOf}
-use Rattle.sheets.specs.Laid.{treeOf, modelOfText}
+use Rattle.json.specs.Machine.{treeOf}
+use Rattle.sheets.specs.Laid.{modelOfText}
 use Rattle.sheets.specs.Clear.{all-both}
 use Rattle.sheets.specs.Quoted.{InQuotes, chars-end, chars-escaped, text-quoted}
 use Rattle.sheets.specs.Answers.{tree-is}

@@ -1,26 +1,14 @@
 -- What lay answers for a text and a lent sheet, and what the sheet then holds (document 01, "Verdict and place" and "Town and sheet"). Assumes nothing: these are definitions.
 use Prim.Native.Nat.{ℕ, _-_}
 use mathlib.Core.Bool.{cond}
-use mathlib.Core.List.{List, [], _++_}
+use mathlib.Core.List.{List, _++_}
 use lib.ListN.{length, replicate}
 use lib.Dec.{leb}
-use Rattle.json.specs.Tree as tree
-use Rattle.json.specs.Tree.{Json}
-use Rattle.json.specs.Machine.{Outcome, reads, bad, tooDeep, read}
+use Rattle.json.specs.Machine.{treeOf}
 use Rattle.model.specs.Model.{Model, sheetOf}
 use Rattle.model.specs.Read.{modelOf}
 use Rattle.verdict.specs.Verdict.{Verdict, verdict}
 use Rattle.verdict.specs.Verdict as judge
-
--- the tree of a text; what it is for a text that is not JSON matters nowhere
-unfoldable pub treeIn : Outcome → Json
-treeIn (reads v) = v
-treeIn (bad n) = tree.null 0 0
-treeIn (tooDeep n) = tree.null 0 0
-
-unfoldable pub treeOf : List ℕ → Json
-unfolding treeIn read
-treeOf text = treeIn (read text)
 
 -- the model of a text, and its sheet
 unfoldable pub modelOfText : List ℕ → Model

@@ -9,4 +9,5 @@ pub mod Answers
 pub mod Characters
 pub mod Theorems
 pub mod Examples
+pub mod AlikeExamples
 pub mod Starred

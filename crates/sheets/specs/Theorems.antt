@@ -7,6 +7,7 @@ use lib.ListN.{length, take, replicate, length-map}
 use Rattle.utf8.specs.Utf8.{Whole}
 use Rattle.strings.specs.Strings.{decode}
 use Rattle.json.specs.Tree.{Name}
+use Rattle.json.specs.Machine.{treeOf}
 use Rattle.nodes.specs.Access.{members}
 use Rattle.everywhere.specs.Everywhere.{strings}
 use Rattle.verdict.specs.Verdict.{accepted, verdict}
@@ -15,10 +16,11 @@ use Rattle.model.specs.Good.{GoodModel}
 use Rattle.model.specs.Read.{get, objectOf, modelOf}
 use Rattle.model.specs.Demand.{same-sheet-same-model, Begins, neither-begins}
 use Rattle.model.specs.Alike.{Alike, alike-same-model}
-use Rattle.sheets.specs.Laid.{treeOf, modelOfText, sheetOfText, laid, refused, answer, roomAfter}
+use Rattle.model.specs.AlikeLaws.{alike-self, alike-sym}
+use Rattle.sheets.specs.Laid.{modelOfText, sheetOfText, laid, refused, answer, roomAfter}
 use Rattle.sheets.specs.Clear.{objects-members}
 use Rattle.sheets.specs.Characters.{WholeTexts, whole-strings, whole-model}
-use Rattle.sheets.specs.Answers.{good-text, object-count, of-laid, holds-sheet, begins-sheet, holds-zeros, room-length, same-answer, same-room, too-long, does-not-fit}
+use Rattle.sheets.specs.Answers.{good-text, distinct-names, object-count, of-laid, holds-sheet, begins-sheet, holds-zeros, room-length, same-answer, same-room, too-long, does-not-fit}
 
 -- an accepted text's model is as document 01 asks (rules 10, 12, 13 and 15), and its sheet is shorter than 2^32 bytes
 pub good : (x : List ℕ) (n : ℕ) → verdict x ≡ accepted n → GoodModel (modelOfText x)
@@ -77,6 +79,14 @@ eighteen x r = (too-long x r, (λ ((n, e), h). does-not-fit x r n e h))
 pub alike : (x y : List ℕ) → Alike (treeOf x) (treeOf y) → (modelOfText x ≡ modelOfText y) × (sheetOfText x ≡ sheetOfText y)
 unfolding modelOfText sheetOfText
 alike x y a = let e = alike-same-model (treeOf x) (treeOf y) a in (e, ap sheetOf e)
+
+-- an accepted text is alike to itself
+pub alike-reflexive : (x : List ℕ) (n : ℕ) → verdict x ≡ accepted n → Alike (treeOf x) (treeOf x)
+alike-reflexive x n e = alike-self (treeOf x) (distinct-names x n e)
+
+-- and if it is alike to another text, that is alike to it
+pub alike-symmetric : (x y : List ℕ) (n : ℕ) → verdict x ≡ accepted n → Alike (treeOf x) (treeOf y) → Alike (treeOf y) (treeOf x)
+alike-symmetric x y n e a = alike-sym (treeOf x) (treeOf y) (distinct-names x n e) a
 
 -- so if both are accepted, they have the same answer and leave the same bytes, in every room
 pub alike-rooms : (x y : List ℕ) (n m r : ℕ) → verdict x ≡ accepted n → verdict y ≡ accepted m → Alike (treeOf x) (treeOf y) → (answer x r ≡ answer y r) × (roomAfter x r ≡ roomAfter y r)
