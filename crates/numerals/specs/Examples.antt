@@ -1,19 +1,12 @@
 -- Worked examples of numerals: those of rule 13 and its limits, and of values.
 use mathlib.Core.Path.{_≡_, refl, ap}
 use mathlib.Core.Option.{none, some}
-use mathlib.Core.List.{List, [], _∷_}
-use Prim.Native.Nat.{ℕ}
-use Prim.Native.Char.{code}
-use Prim.Native.String.{String, [] as nil, _∷_ as cons}
 use lib.IntN.{pos, negsuc, natAbs}
 use mathlib.Core.Bool.{true, false}
 use native.Mathlib.Omega.{arith}
+use Rattle.utf8.specs.Ascii.{ascii}
 use Rattle.numerals.specs.Numerals.{decimal, pairOf, isInteger, integer, fits32, isBelow}
 use Rattle.numerals.specs.Values.{written, SameValue, by-value}
-
-unfoldable ascii : String → List ℕ
-ascii nil = []
-ascii (cons c s) = code c ∷ ascii s
 
 one-point-nought : pairOf (ascii "1.0") ≡ some (record { m = pos 1; e = pos 0 })
 unfolding pairOf ascii

@@ -11,7 +11,9 @@ use native.Mathlib.Numerals.{add-one}
 use lib.Dec.{eqb, leb}
 use lib.IntN.{ℤ, pos, natAbs, _-ℤ_, _*ℤ_}
 use borrow.Author.Tests.{eqb-true, leb-true, ne-eqb}
-use Rattle.numerals.specs.Numerals.{Decimal, Trimmed, more, trimmed, none-yet, natural, digits, isDigit, isPoint, isLetter, isInteger, integer, before, after, mantissa, places, exponent, negative, signed, scaled, decimal, timesTen, wholeOf}
+use Rattle.utf8.specs.Ascii.{isDigit}
+use Rattle.utf8.specs.Laws.{clash}
+use Rattle.numerals.specs.Numerals.{Decimal, Trimmed, more, trimmed, none-yet, natural, digits, isPoint, isLetter, isInteger, integer, before, after, mantissa, places, exponent, negative, signed, scaled, decimal, timesTen, wholeOf}
 
 -- ---- the digits write m times ten to the zeros
 
@@ -44,14 +46,11 @@ abbrev Small : List ℕ → Type 0
 Small [] = Unit {0}
 Small (d ∷ ds) = (d < 10) × Small ds
 
-pub clash : false ≡ true → ⊥
-clash e = let z : _≡_ {A = ℕ} 0 1 = cc in omega arith
-
 -- the bounds of a digit
 digit-bounds : (b : ℕ) (x y : Bool) → leb 48 b ≡ x → leb b 57 ≡ y → x && y ≡ true → (48 ≤ b) × (b - 48 < 10)
 digit-bounds b true true p q e = (leb-true 48 b p, omega (arith, leb-true b 57 q))
-digit-bounds b true false p q e = absurd (clash e)
-digit-bounds b false y p q e = absurd (clash e)
+digit-bounds b true false p q e = clash cc
+digit-bounds b false y p q e = clash cc
 
 module _ (b : ℕ) (e : true ≡ isDigit b) where
   pub digit-low : 48 ≤ b
@@ -127,8 +126,8 @@ lacks-more test b s e h = record { all = before-no test b s e ∙ ap (λ l. b �
 -- a byte of an integer is neither a point nor a letter
 clear : (p l i : Bool) → not (p || l) && i ≡ true → (p ≡ false) × (l ≡ false) × (i ≡ true)
 clear false false i e = (refl, refl, e)
-clear false true i e = absurd (clash e)
-clear true l i e = absurd (clash e)
+clear false true i e = clash cc
+clear true l i e = clash cc
 
 plain : (raw : List ℕ) → isInteger raw ≡ true → Lacks isPoint raw × Lacks isLetter raw
 unfolding isInteger before after

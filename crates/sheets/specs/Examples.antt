@@ -2,9 +2,9 @@
 use Prim.Native.Nat.{ℕ}
 use mathlib.Core.Path.{_≡_, refl}
 use mathlib.Core.List.{List, [], _∷_, _++_}
-use Rattle.utf8.specs.Ascii.{ascii}
+use Rattle.utf8.specs.Ascii.{ascii, isDigit}
 use Rattle.json.specs.Tree.{_◂_, with}
-use Rattle.json.specs.Machine.{step, wantStep, gotStep, nextStep, nameStep, mantStep, noughtStep, isBlank, isDigit, isHex, isEscape}
+use Rattle.json.specs.Machine.{step, wantStep, gotStep, nextStep, nameStep, mantStep, noughtStep, isBlank, isHex, isEscape}
 use Rattle.numerals.specs.Numerals.{decimal, wholeOf}
 use Rattle.words.specs.Words.{codeOf, objectWords, geometryWords, surfaceWords, depth, valuesDepth}
 use Rattle.nodes.specs.Access.{elements, members, nameOf, textOf, find}
