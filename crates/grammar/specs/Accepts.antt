@@ -10,10 +10,11 @@ use lib.ListN.{length, drop, drop-of-length-le, length-drop}
 use lib.Seq.{drop-cons}
 use lib.Dec.{eqb}
 use borrow.Author.Tests.{eqb-true, eqb-false}
+use Rattle.utf8.specs.Ascii.{isDigit}
 use Rattle.utf8.specs.Laws.{clash}
 use Rattle.json.specs.Tree.{Json, Members, Name}
 use Rattle.json.specs.Grammar.{At}
-use Rattle.json.specs.Machine.{Frame, Mode, Step, go, dead, deep, reads, bad, tooDeep, step, run, ending, finish, gotStep, isBlank, isDigit}
+use Rattle.json.specs.Machine.{Frame, Mode, Step, go, dead, deep, reads, bad, tooDeep, step, run, ending, finish, gotStep, isBlank}
 use Rattle.json.specs.Machine.Mode.{want, first, name0, name1, colon, got, int, frac, exps}
 
 -- in the mode m with the containers ks open at n, the machine reads the text x to its end, as the tree t

@@ -8,9 +8,9 @@ use lib.ListN.{length, take}
 use lib.Seq.{slice}
 use lib.Dec.{eqb, ltb}
 use borrow.Author.Tests.{ltb-true, ltb-false}
-use Rattle.utf8.specs.Ascii.{ascii}
+use Rattle.utf8.specs.Ascii.{ascii, isDigit}
 use Rattle.json.specs.Tree.{Json, num, none}
-use Rattle.json.specs.Machine.{Frame, array, object, Role, value, Mode, Step, go, dead, deep, step, wantStep, gotStep, nextStep, nameStep, mantStep, noughtStep, isBlank, isDigit, isHex, isEscape, closed, hexed, opened}
+use Rattle.json.specs.Machine.{Frame, array, object, Role, value, Mode, Step, go, dead, deep, step, wantStep, gotStep, nextStep, nameStep, mantStep, noughtStep, isBlank, isHex, isEscape, closed, hexed, opened}
 use Rattle.json.specs.Machine.Role.{name}
 use Rattle.json.specs.Machine.Mode.{want, first, name0, name1, colon, got, chars, esc, hex, neg, nought, int, dot, frac, mant, exp, sign, exps, lit}
 use Rattle.grammar.specs.Endings.{Spelt}

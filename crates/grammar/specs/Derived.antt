@@ -11,11 +11,11 @@ use mathlib.Core.Logic.{_⊎_, inl, inr}
 use lib.ListN.{length}
 use lib.Dec.{leb}
 use borrow.Author.Tests.{leb-true}
-use Rattle.utf8.specs.Ascii.{ascii}
+use Rattle.utf8.specs.Ascii.{ascii, isDigit}
 use Rattle.utf8.specs.Laws.{clash}
 use Rattle.json.specs.Tree.{Json, Items, _◂_, Members}
 use Rattle.json.specs.Tree as tree
-use Rattle.json.specs.Machine.{Frame, array, object, Role, value, Mode, go, dead, reads, bad, step, ending, isBlank, isDigit, closed, numeral, literal}
+use Rattle.json.specs.Machine.{Frame, array, object, Role, value, Mode, go, dead, reads, bad, step, ending, isBlank, closed, numeral, literal}
 use Rattle.json.specs.Machine.Role.{name}
 use Rattle.json.specs.Machine.Mode.{want, first, name0, name1, got, chars, neg, nought, int, frac, mant, exp, exps, lit}
 use Rattle.json.specs.Grammar.{At, Text, nameAt}

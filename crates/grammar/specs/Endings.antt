@@ -5,8 +5,9 @@ use mathlib.Core.Path.{_≡_, refl}
 use mathlib.Core.Bool.{Bool}
 use mathlib.Core.Option.{Option}
 use mathlib.Core.List.{List, [], _∷_, _++_}
+use Rattle.utf8.specs.Ascii.{isDigit}
 use Rattle.json.specs.Tree.{Json, Members, Name}
-use Rattle.json.specs.Machine.{Frame, array, object, Role, value, Mode, go, reads, run, step, gotStep, mantStep, noughtStep, isBlank, isDigit, isHex, isEscape, numeral}
+use Rattle.json.specs.Machine.{Frame, array, object, Role, value, Mode, go, reads, run, step, gotStep, mantStep, noughtStep, isBlank, isHex, isEscape, numeral}
 use Rattle.json.specs.Machine.Role.{name}
 use Rattle.json.specs.Machine.Mode.{want, first, name0, name1, colon, got, chars, esc, hex, neg, nought, int, dot, frac, mant, exp, sign, exps, lit}
 use Rattle.json.specs.Steps as st

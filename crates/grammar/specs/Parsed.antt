@@ -10,10 +10,10 @@ use mathlib.Core.Option as option
 use mathlib.Core.List.{List, [], _∷_}
 use mathlib.Core.Logic.{_⊎_, inl, inr}
 use lib.ListN.{length}
-use Rattle.utf8.specs.Ascii.{ascii}
+use Rattle.utf8.specs.Ascii.{ascii, isDigit}
 use Rattle.json.specs.Tree.{Json, Items, _▸_, _◂_, Members, member, with}
 use Rattle.json.specs.Tree as tree
-use Rattle.json.specs.Machine.{Frame, array, object, Role, value, Mode, go, dead, reads, bad, step, ending, isBlank, isDigit, isHex, isEscape, closed, numeral, literal, hexed}
+use Rattle.json.specs.Machine.{Frame, array, object, Role, value, Mode, go, dead, reads, bad, step, ending, isBlank, isHex, isEscape, closed, numeral, literal, hexed}
 use Rattle.json.specs.Machine.Role.{name}
 use Rattle.json.specs.Machine.Mode.{want, first, name0, name1, colon, got, chars, esc, hex, neg, nought, int, dot, frac, mant, exp, sign, lit}
 use Rattle.json.specs.Grammar.{At, Text, nameAt}

@@ -4,12 +4,12 @@ use native.Mathlib.Omega.{arith}
 use native.Mathlib.Numerals.{add-one}
 use native.Mathlib.Decide.{decLt}
 use mathlib.Core.Path.{_≡_, refl, sym, _∙_, ap}
-use mathlib.Core.List.{List, [], _∷_, _++_, append-assoc}
+use mathlib.Core.List.{List, [], _∷_, _++_, append-assoc, append-nil}
 use lib.ListN.{length, take, drop, length-append, length-drop, take-append-drop, List·getD-append}
-use lib.Seq.{drop-cons, drop-at, length-take-le, take-take, take-append-le, getD-take}
+use lib.Seq.{drop-cons, drop-at, length-take-le, take-length, take-take, take-append-le, getD-take}
 use Rattle.utf8.specs.Laws.{clash}
 use Rattle.json.specs.Tree.{Json}
-use Rattle.json.specs.Grammar.{At, Begins}
+use Rattle.json.specs.Grammar.{At, Text, Begins}
 use Rattle.json.specs.Machine.{Frame, Mode, Step, go, dead, deep, Outcome, bad, tooDeep, step, run, ending, finish}
 use Rattle.json.specs.Machine.Outcome.{reads}
 use Rattle.json.specs.Machine.Mode.{want, first, name0, name1, colon, got, chars, esc, hex, neg, nought, int, dot, frac, mant, exp, sign, exps, lit}
@@ -174,8 +174,12 @@ halted l x = halted-from x want [] 0 refl start (record { levels = omega arith; 
 abbrev pub Stops : (l : ℕ) (x : List ℕ) (n : ℕ) → Type 0
 Stops l x n = (n ≤ length x) × Begins l (take n x) × (n < length x → Begins l (take (n + 1) x) → ⊥)
 
+-- all bytes of a text begin one
+pub begun : {l : ℕ} {x : List ℕ} {v : Json} → Text l x v → Begins l (take (length x) x)
+begun {l} {x} {v} d = ([], v, rw (take-length, append-nil) d)
+
 -- fewer bytes begin a text too, so that there is one such place
-shorter : {l : ℕ} (x : List ℕ) (j k : ℕ) → j ≤ k → Begins l (take k x) → Begins l (take j x)
+pub shorter : {l : ℕ} (x : List ℕ) (j k : ℕ) → j ≤ k → Begins l (take k x) → Begins l (take j x)
 shorter x j k h (u, v, d) =
     let e : take j x ++ (drop j (take k x) ++ u) ≡ take k x ++ u = sym (append-assoc (take j x) (drop j (take k x)) u) ∙ rw (sym (take-take j k x h), take-append-drop j (take k x)) in
     (drop j (take k x) ++ u, v, rw e d)

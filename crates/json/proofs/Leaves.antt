@@ -10,11 +10,11 @@ use lib.ListN.{length, getD, set, length-set}
 use lib.Seq.{getD-set-same, getD-set-other, slice}
 use borrow.Author.Tests.{ne-eqb, ltb-true}
 use lib.Dec.{ltb}
-use Rattle.utf8.specs.Ascii.{ascii}
+use Rattle.utf8.specs.Ascii.{ascii, isDigit}
 use Rattle.utf8.specs.Finite.{each-below}
 use Rattle.json.specs.Tree.{Json, Members}
 use Rattle.json.specs.Tree as tree
-use Rattle.json.specs.Machine.{Frame, Mode, value, step, go, isBlank, isDigit}
+use Rattle.json.specs.Machine.{Frame, Mode, value, step, go, isBlank}
 use Rattle.json.specs.Machine.Role.{name}
 use Rattle.json.specs.Machine.Mode.{want, name1, colon, neg, nought, int, mant, chars}
 use Rattle.json.specs.Table.{size, Words, Quoted, isNumeric, Sub, null, bool, num, str}

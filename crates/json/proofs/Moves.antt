@@ -9,7 +9,8 @@ use lib.Seq.{drop-cons}
 use lib.Dec.{T}
 use native.Mathlib.Numerals.{add-one}
 use native.Mathlib.Decide.{decLt}
-use Rattle.json.specs.Machine.{Frame, Mode, go, dead, deep, bad, tooDeep, run, step, finish, ending, isBlank, isDigit, gotStep}
+use Rattle.utf8.specs.Ascii.{isDigit}
+use Rattle.json.specs.Machine.{Frame, Mode, go, dead, deep, bad, tooDeep, run, step, finish, ending, isBlank, gotStep}
 use Rattle.json.specs.Machine.Mode.{want, first, name0, name1, colon, got, chars, esc, hex, neg, nought, int, dot, frac, mant, exp, sign, exps, lit}
 use Rattle.json.specs.Says.{from, blanks, digital, Stays}
 

@@ -13,8 +13,9 @@ use lib.Dec.{T}
 use mir.Syntax.{w64}
 use mir.Val.{Fits}
 use denote.Enum.Declared.{tagOf}
+use Rattle.utf8.specs.Ascii.{isDigit}
 use Rattle.json.proofs.Scan.{the-type}
-use Rattle.json.specs.Machine.{Frame, Mode, step, go, dead, bad, ending, isDigit, isHex, isEscape}
+use Rattle.json.specs.Machine.{Frame, Mode, step, go, dead, bad, ending, isHex, isEscape}
 use Rattle.json.specs.Machine.Mode.{nought, int, frac, mant, exps}
 use Rattle.json.specs.Says.{land, Within, Reads, Skips, digital, to, numbered, StringAt, charsOf, escOf, hexOf, closedOf, ReadsString, Unescaped, Eight, Marked, Passes, WordAt, literalOf, ReadsWord}
 use Rattle.json.specs.declared.Scan.{Scan}

@@ -7,7 +7,8 @@ use mathlib.Core.Bool.{Bool, true, false, not}
 use lib.ListN.{length, getD}
 use borrow.Author.Needs.{needs}
 use borrow.Author.Tests.{not-true, not-false}
-use Rattle.json.specs.Machine.{Mode, isBlank, isDigit}
+use Rattle.utf8.specs.Ascii.{isDigit}
+use Rattle.json.specs.Machine.{Mode, isBlank}
 use Rattle.json.specs.Machine.Mode.{nought, dot, mant}
 use Rattle.json.specs.Says.{Stays, Skips, Reads, blanks, digital, to, numbered}
 use Rattle.json.specs.declared.Scan.{Scan}

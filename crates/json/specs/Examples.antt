@@ -3,9 +3,9 @@ use Prim.Native.Nat.{ℕ}
 use mathlib.Core.Path.{_≡_, refl}
 use mathlib.Core.List.{[]}
 use lib.ListN.{replicate}
-use Rattle.utf8.specs.Ascii.{ascii}
+use Rattle.utf8.specs.Ascii.{ascii, isDigit}
 use Rattle.json.specs.Tree.{str, num, arr, obj, none, _▸_, _◂_, empty, member, with}
-use Rattle.json.specs.Machine.{reads, bad, tooDeep, read, step, wantStep, gotStep, nextStep, nameStep, mantStep, noughtStep, isBlank, isDigit, isHex, isEscape}
+use Rattle.json.specs.Machine.{reads, bad, tooDeep, read, step, wantStep, gotStep, nextStep, nameStep, mantStep, noughtStep, isBlank, isHex, isEscape}
 
 empty-text : read [] ≡ bad 0
 unfolding read

@@ -7,10 +7,10 @@ use mathlib.Core.List.{List, [], _∷_, _++_}
 use mathlib.Core.Logic.{_⊎_}
 use lib.ListN.{length, getD}
 use lib.Seq.{slice}
-use Rattle.utf8.specs.Ascii.{ascii}
+use Rattle.utf8.specs.Ascii.{ascii, isDigit}
 use Rattle.json.specs.Tree.{Json, Items, _▸_, member, Name}
 use Rattle.json.specs.Tree as tree
-use Rattle.json.specs.Machine.{isBlank, isDigit, isHex, isEscape}
+use Rattle.json.specs.Machine.{isBlank, isHex, isEscape}
 
 -- the byte b stands at n
 pub record At (x : List ℕ) (n b : ℕ) : Type 0 where

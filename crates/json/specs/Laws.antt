@@ -9,10 +9,11 @@ use lib.ListN.{length, getD}
 use lib.Seq.{slice-cons}
 use lib.Dec.{eqb}
 use borrow.Author.Tests.{ne-eqb, le-leb, lt-leb}
+use Rattle.utf8.specs.Ascii.{isDigit}
 use Rattle.utf8.specs.Laws.{clash}
 use Rattle.json.specs.Tree.{Json, Items, _▸_, _◂_, Members, member, with, Name, placeOf, endOf}
 use Rattle.json.specs.Tree as tree
-use Rattle.json.specs.Machine.{isBlank, isDigit}
+use Rattle.json.specs.Machine.{isBlank}
 use Rattle.json.specs.Table.{size, sizes, widths, Words, Quoted, isNumeric, lead, Sub, null, bool, num, str, arr, obj, Subs, nil, cons, Fields, last, field}
 
 -- kinds of byte, by their range

@@ -9,15 +9,12 @@ use mathlib.Core.List.{List, [], _∷_}
 use lib.ListN.{length}
 use lib.Seq.{slice}
 use lib.Dec.{eqb, leb, ltb}
-use Rattle.utf8.specs.Ascii.{ascii}
+use Rattle.utf8.specs.Ascii.{ascii, isDigit}
 use Rattle.json.specs.Tree.{Json, null, bool, num, str, arr, obj, Items, none, _◂_, Members, empty, with, Name}
 
--- the kinds of byte: white space; a digit; a hexadecimal digit; what may follow the backslash of an escape of two bytes
+-- the kinds of byte: white space; a hexadecimal digit; what may follow the backslash of an escape of two bytes
 unfoldable pub isBlank : ℕ → Bool
 isBlank b = eqb b 32 || eqb b 10 || eqb b 13 || eqb b 9
-
-unfoldable pub isDigit : ℕ → Bool
-isDigit b = leb 48 b && leb b 57
 
 unfoldable pub isHex : ℕ → Bool
 isHex b = leb 48 b && leb b 57 || leb 65 b && leb b 70 || leb 97 b && leb b 102

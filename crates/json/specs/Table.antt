@@ -8,9 +8,9 @@ use Prim.Native.Nat.{ℕ, _+_, _-_, _<_, _≤_}
 use lib.ListN.{length, getD}
 use lib.Seq.{slice}
 use lib.Dec.{eqb}
+use Rattle.utf8.specs.Ascii.{isDigit}
 use Rattle.json.specs.Tree.{Json, Items, _▸_, Members, member, Name}
 use Rattle.json.specs.Tree as tree
-use Rattle.json.specs.Machine.{isDigit}
 
 -- how many words a value takes, elements take, and members take
 unfoldable mutual

@@ -5,13 +5,11 @@ use native.Mathlib.Decide.{decLt}
 use mathlib.Core.Path.{_≡_, refl, sym, ap, _∙_}
 use mathlib.Core.Bool.{Bool, true, false, cond}
 use mathlib.Core.List.{List}
-use mathlib.Core.Logic.{inl, inr}
 use lib.ListN.{length}
 use lib.Dec.{leb}
 use Rattle.utf8.specs.Laws.{clash}
-use Rattle.grammar.specs.Theorems.{stops}
 use Rattle.verdict.specs.Verdict.{Verdict, accepted, refused, verdict}
-use Rattle.verdict.specs.Exact.{Breaks, too-long, not-utf8, not-json, too-deep, in-tree, refused-least, accepted-clean, verdict-long}
+use Rattle.verdict.specs.Exact.{Breaks, too-long, not-utf8, not-json, incomplete, too-deep, in-tree, refused-least, accepted-clean, verdict-long}
 use Rattle.sheets.specs.Laid.{sheetOfText, fitted, answer}
 use Rattle.sheets.specs.Laid as laid
 use Rattle.sheets.specs.Answers.{of-laid}
@@ -31,9 +29,10 @@ use Rattle.laying.specs.Laying.{answered}
 inside : (x : List ℕ) → length x ≤ 65535 → {r p : ℕ} → Breaks x r p → p ≤ 65535
 inside x h (too-long k) = omega arith
 inside x h (not-utf8 k) = omega arith
-inside x h (not-json {p = p} q) = omega (arith, stops x p (inl q) .0)
-inside x h (too-deep {p = p} q) = omega (arith, stops x p (inr q) .0)
-inside x h (in-tree v l q k m) = omega arith
+inside x h (not-json a k f) = omega (arith, a .inside)
+inside x h (incomplete a k f) = omega (arith, a .inside)
+inside x h (too-deep a k b) = omega (arith, a .inside)
+inside x h (in-tree v l d k m) = omega arith
 
 -- a place is below 65,536
 pub place-small : (x : List ℕ) (r p : ℕ) → verdict x ≡ refused r p → p ≤ 65535

@@ -2,9 +2,9 @@
 use Prim.Native.Nat.{ℕ}
 use mathlib.Core.Path.{_≡_, refl}
 use mathlib.Core.List.{List}
-use Rattle.utf8.specs.Ascii.{ascii}
+use Rattle.utf8.specs.Ascii.{ascii, isDigit}
 use Rattle.json.specs.Tree.{_◂_, with}
-use Rattle.json.specs.Machine.{Outcome, reads, bad, tooDeep, read, step, wantStep, gotStep, nextStep, nameStep, mantStep, noughtStep, isBlank, isDigit, isHex, isEscape}
+use Rattle.json.specs.Machine.{Outcome, reads, bad, tooDeep, read, step, wantStep, gotStep, nextStep, nameStep, mantStep, noughtStep, isBlank, isHex, isEscape}
 use Rattle.nodes.specs.Faults.{fault, least, none}
 use Rattle.links.specs.Links.{linkFaults}
 

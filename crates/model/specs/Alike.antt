@@ -10,11 +10,11 @@ use lib.IntN.{ℤ}
 use Rattle.words.specs.Words.{depth, valuesDepth}
 use Rattle.model.specs.Good.{Both}
 use Rattle.words.specs.Words.{codeOf, geometryWords, objectWords}
-use Rattle.numerals.specs.Numerals.{decimal}
+use Rattle.numerals.specs.Numerals.{decimal, wholeOf}
 use Rattle.strings.specs.Strings.{decode}
 use Rattle.json.specs.Tree.{Json, null, bool, num, str, arr, obj, Items, none, _▸_, Members, empty, member}
 use Rattle.nodes.specs.Access.{Member, listed, pairs, elements, members, nameOf, textOf, firstNamed, find}
-use Rattle.model.specs.Read.{get, orNull, numberOf, zeroIfNone, decimalOf, times, integerOf, natural, indexOf, valueOf, threeOf, nestOf, lodOf, surfaceNamed, surfaceOf, semanticsOf, geometryOf, objectOf, modelOf}
+use Rattle.model.specs.Read.{get, orNull, numberOf, zeroIfNone, decimalOf, integerOf, natural, indexOf, valueOf, threeOf, nestOf, lodOf, surfaceNamed, surfaceOf, semanticsOf, geometryOf, objectOf, modelOf}
 
 -- ---- the definition
 
@@ -156,7 +156,7 @@ decimal-r j k s = ap zeroIfNone (same-number j k s)
 
 integer-r : Respects whole integerOf
 unfolding integerOf
-integer-r j k s = ap (λ d. times (d .m) (d .e)) (decimal-r j k s)
+integer-r j k s = ap wholeOf (decimal-r j k s)
 
 index-r : Respects whole indexOf
 unfolding indexOf
@@ -164,7 +164,7 @@ index-r j k s = ap natural (integer-r j k s)
 
 value-r : Respects whole valueOf
 unfolding Agree valueOf
-value-r j k s = ap (Option·map (λ d. natural (times (d .m) (d .e)))) (same-number j k s)
+value-r j k s = ap (Option·map (λ d. natural (wholeOf d))) (same-number j k s)
 
 three-r : {A : Type 0} (read : Json → A) → Respects whole read → Respects whole (threeOf read)
 unfolding Agree threeOf

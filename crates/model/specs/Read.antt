@@ -3,12 +3,12 @@
 use mathlib.Core.Bool.{cond}
 use mathlib.Core.List.{List, [], _∷_, map}
 use mathlib.Core.Option.{Option, none, some, Option·map}
-use Prim.Native.Nat.{ℕ, zero, suc, _-_, _*_, _^_}
+use Prim.Native.Nat.{ℕ, zero, suc, _-_}
 use Prim.Native.String.{String}
 use lib.ListN.{getD}
 use lib.Dec.{eqb}
-use lib.IntN.{ℤ, pos, negsuc, _*ℤ_}
-use Rattle.numerals.specs.Numerals.{Decimal, decimal}
+use lib.IntN.{ℤ, pos, negsuc}
+use Rattle.numerals.specs.Numerals.{Decimal, decimal, wholeOf}
 use Rattle.words.specs.Words.{objectWords, geometryWords, surfaceWords, codeOf, depth, valuesDepth}
 use Rattle.json.specs.Tree as tree
 use Rattle.json.specs.Tree.{Json}
@@ -40,12 +40,8 @@ unfoldable pub decimalOf : Json → Decimal
 decimalOf j = zeroIfNone (numberOf j)
 
 -- the value of a whole number
-unfoldable pub times : ℤ → ℤ → ℤ
-times m (pos e) = m *ℤ pos (10 ^ e)
-times m (negsuc e) = pos 0
-
 unfoldable pub integerOf : Json → ℤ
-integerOf j = times (decimalOf j .m) (decimalOf j .e)
+integerOf j = wholeOf (decimalOf j)
 
 unfoldable pub natural : ℤ → ℕ
 natural (pos n) = n
@@ -56,7 +52,7 @@ indexOf j = natural (integerOf j)
 
 -- a semantic value: none where the value is no number, as null
 unfoldable pub valueOf : Json → Option ℕ
-valueOf j = Option·map (λ d. natural (times (d .m) (d .e))) (numberOf j)
+valueOf j = Option·map (λ d. natural (wholeOf d)) (numberOf j)
 
 unfoldable pub threeOf : {A : Type 0} → (Json → A) → Json → Three A
 threeOf read j = let l = elements j in record { x = read (getD l 0 (tree.null 0 0)); y = read (getD l 1 (tree.null 0 0)); z = read (getD l 2 (tree.null 0 0)) }

@@ -8,7 +8,7 @@ use lib.ListN.{length, getD}
 use lib.Dec.{eqb}
 use borrow.Author.Needs.{needs}
 use borrow.Author.Tests.{ne-eqb, le-leb, lt-leb}
-use Rattle.json.specs.Machine.{isDigit}
+use Rattle.utf8.specs.Ascii.{isDigit}
 use Rattle.json.specs.Tree.{Json}
 use Rattle.json.specs.Table.{isNumeric, Sub}
 use Rattle.json.specs.Laws.{words}

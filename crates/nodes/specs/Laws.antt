@@ -8,10 +8,10 @@ use lib.ListN.{length, getD, replicate, length-replicate}
 use lib.Seq.{slice}
 use lib.Dec.{eqb}
 use borrow.Author.Tests.{ne-eqb}
+use Rattle.utf8.specs.Ascii.{isDigit}
 use Rattle.utf8.specs.Laws.{never}
 use Rattle.strings.specs.Strings.{decode}
 use Rattle.strings.specs.Spans.{Span, decodeAt}
-use Rattle.json.specs.Machine.{isDigit}
 use Rattle.json.specs.Tree.{Json, Members, placeOf}
 use Rattle.json.specs.Tree as tree
 use Rattle.json.specs.Table.{Quoted, isNumeric, Sub, null, bool, num, str, arr, obj}

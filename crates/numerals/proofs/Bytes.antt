@@ -11,7 +11,8 @@ use lib.Seq.{slice, slice-cons, slice-empty}
 use lib.Dec.{eqb}
 use borrow.Author.Tests.{ne-eqb, le-leb, lt-leb, not-true, not-false}
 use borrow.Author.Needs.{needs}
-use Rattle.numerals.specs.Numerals.{isDigit, isPoint, isLetter, isInteger, digits, natural, negative}
+use Rattle.utf8.specs.Ascii.{isDigit}
+use Rattle.numerals.specs.Numerals.{isPoint, isLetter, isInteger, digits, natural, negative}
 use Rattle.numerals.specs.Laws.{digit-low, digit-high}
 use Rattle.numerals.specs.Reading.{saturated}
 

@@ -16,7 +16,8 @@ use mir.Val.{SFits, toZ, ofZ}
 use mir.Facts.{toZ-ofZ}
 use borrow.Author.Tests.{eq-eqb, ne-eqb, le-leb, lt-leb, lt-ltb, le-ltb, ltb-true, ltb-false}
 use borrow.Author.Needs.{needs}
-use Rattle.numerals.specs.Numerals.{Decimal, Trimmed, more, trimmed, isDigit, isPoint, isLetter, digits, natural, negative, signed, after, mantissa, places, exponent, scaled, decimal, inRange, pairOf}
+use Rattle.utf8.specs.Ascii.{isDigit}
+use Rattle.numerals.specs.Numerals.{Decimal, Trimmed, more, trimmed, isPoint, isLetter, digits, natural, negative, signed, after, mantissa, places, exponent, scaled, decimal, inRange, pairOf}
 use Rattle.numerals.specs.Laws.{digit-low, after-no, after-yes, natAbs-signed}
 use Rattle.numerals.specs.Reading.{pairIn, saturated, IsWhole, digit, taken, sums, nothing, IsRead, Reads, Reaches, powerOf}
 use Rattle.numerals.specs.declared.Numeral.the-variants.{Pair, Out}

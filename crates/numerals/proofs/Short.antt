@@ -12,15 +12,17 @@ use lib.IntN.{pos}
 use mir.Syntax.{w64}
 use mir.Val.{Fits}
 use borrow.Author.Tests.{ne-eqb, eq-eqb, lt-ltb, le-ltb}
-use Rattle.numerals.specs.Numerals.{isDigit, isPoint, isLetter, isInteger, integer, digits, natural, negative, signed, fits32}
-use Rattle.numerals.specs.Laws.{clash, digit-high}
+use Rattle.utf8.specs.Ascii.{isDigit}
+use Rattle.utf8.specs.Laws.{never}
+use Rattle.numerals.specs.Numerals.{isPoint, isLetter, isInteger, integer, digits, natural, negative, signed, fits32}
+use Rattle.numerals.specs.Laws.{digit-high}
 use Rattle.numerals.specs.Reading.{allDigits, quickOf, isShort, Quick, Short}
 use Rattle.numerals.proofs.Bytes.{bytes, slice-next, slice-out, digits-more}
 
 -- a digit is no sign, no point and no letter
 module _ (b : ℕ) (e : true ≡ isDigit b) where
   other : (k : ℕ) → isDigit k ≡ false → eqb b k ≡ false
-  other k f = ne-eqb b k (λ q. clash (sym f ∙ ap isDigit (sym q) ∙ sym e))
+  other k f = ne-eqb b k (λ q. never (sym f ∙ ap isDigit (sym q) ∙ sym e) refl)
 
   digit-point : isPoint b ≡ false
   unfolding isPoint isDigit
@@ -32,7 +34,7 @@ module _ (b : ℕ) (e : true ≡ isDigit b) where
 
 both : (p q : Bool) → p && q ≡ true → (p ≡ true) × (q ≡ true)
 both true q e = (refl, e)
-both false q e = absurd (clash e)
+both false q e = absurd (never e refl)
 
 pub digits-whole : (raw : List ℕ) → allDigits raw ≡ true → isInteger raw ≡ true
 unfolding allDigits isInteger
@@ -167,7 +169,7 @@ short-fits raw h = small-fits (negative raw) (natural 0 (digits raw)) (short-num
 
 -- bytes that are none
 short-none : (raw : List ℕ) → isShort raw ≡ false → Short raw false
-short-none raw e = record { is = sym e; whole = λ e. absurd (clash e); fits = λ e. absurd (clash e) }
+short-none raw e = record { is = sym e; whole = λ e. absurd (never e refl); fits = λ e. absurd (never e refl) }
 
 long-not : (raw : List ℕ) → 9 < length raw → isShort raw ≡ false
 unfolding isShort

@@ -8,7 +8,8 @@ use mathlib.Core.List.{List, [], _∷_}
 use lib.ListN.{length, getD}
 use lib.Seq.{slice}
 use borrow.Author.Tests.{eq-eqb, ne-eqb}
-use Rattle.numerals.specs.Numerals.{isDigit, isPoint, isLetter, before, after, mantissa, places}
+use Rattle.utf8.specs.Ascii.{isDigit}
+use Rattle.numerals.specs.Numerals.{isPoint, isLetter, before, after, mantissa, places}
 use Rattle.numerals.specs.Laws.{digit-low, digit-high, before-no, before-yes, after-no, after-yes}
 use Rattle.numerals.specs.Reading.{digit, taken, sums, nothing, capped, Room, Reads}
 use Rattle.numerals.specs.declared.Sum.{Sum}

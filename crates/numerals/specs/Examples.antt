@@ -1,17 +1,12 @@
--- Worked examples of numerals: those of rule 13 and its limits. Assumes nothing.
-use mathlib.Core.Path.{_≡_, refl}
+-- Worked examples of numerals: those of rule 13 and its limits, and of values.
+use mathlib.Core.Path.{_≡_, refl, ap}
 use mathlib.Core.Option.{none, some}
-use mathlib.Core.List.{List, [], _∷_}
-use Prim.Native.Nat.{ℕ}
-use Prim.Native.Char.{code}
-use Prim.Native.String.{String, [] as nil, _∷_ as cons}
-use lib.IntN.{pos, negsuc}
+use lib.IntN.{pos, negsuc, natAbs}
 use mathlib.Core.Bool.{true, false}
-use Rattle.numerals.specs.Numerals.{pairOf, isInteger, integer, fits32, isBelow}
-
-unfoldable ascii : String → List ℕ
-ascii nil = []
-ascii (cons c s) = code c ∷ ascii s
+use native.Mathlib.Omega.{arith}
+use Rattle.utf8.specs.Ascii.{ascii}
+use Rattle.numerals.specs.Numerals.{decimal, pairOf, isInteger, integer, fits32, isBelow}
+use Rattle.numerals.specs.Values.{written, SameValue, by-value}
 
 one-point-nought : pairOf (ascii "1.0") ≡ some (record { m = pos 1; e = pos 0 })
 unfolding pairOf ascii
@@ -72,3 +67,20 @@ least-32 = refl
 past-32 : fits32 (integer (ascii "2147483648")) ≡ false
 unfolding fits32 integer ascii
 past-32 = refl
+
+-- ---- values
+
+-- 150 times ten to the 0, and 1500 times ten to the -1
+fraction-and-exponent : SameValue (written (ascii "1.50e2")) (written (ascii "150.0"))
+unfolding written ascii
+fraction-and-exponent = record { k = 1; i = 1; j = 0; left = refl; right = refl; same = refl }
+
+-- zero has one value, with a sign and at any power
+zeros : SameValue (written (ascii "-0.0")) (written (ascii "0e9"))
+unfolding written ascii
+zeros = record { k = 1; i = 0; j = 10; left = refl; right = refl; same = refl }
+
+-- 1 and 10 have the same digits but for zeros, and not the same value
+one-and-ten : SameValue (written (ascii "1")) (written (ascii "10")) → ⊥
+unfolding decimal ascii
+one-and-ten s = let e = ap (λ d. natAbs (d .e)) (by-value (ascii "1") (ascii "10") .1 s) in omega (arith, e)

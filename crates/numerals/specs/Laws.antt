@@ -1,5 +1,5 @@
 -- What the definitions of `Numerals` come to: the digits of a numeral write m times ten to the zeros (`meaning`); the pair of a numeral is (0, 0)
--- or has an m that is no multiple of ten (`canonical`, rule 13); and the value of the pair of an integer is that integer (`whole`). Assumes nothing.
+-- or has an m that is no multiple of ten (`canonical`, rule 13); and the value of the pair of an integer is that integer (`whole`).
 use Prim.Native.Nat.{ℕ, zero, suc, _+_, _-_, _*_, _^_, _%_, _≤_, _<_}
 use mathlib.Core.Path.{_≡_, refl, sym, ap, _∙_}
 use mathlib.Core.Logic.{_⊎_, inl, inr}
@@ -11,7 +11,9 @@ use native.Mathlib.Numerals.{add-one}
 use lib.Dec.{eqb, leb}
 use lib.IntN.{ℤ, pos, natAbs, _-ℤ_, _*ℤ_}
 use borrow.Author.Tests.{eqb-true, leb-true, ne-eqb}
-use Rattle.numerals.specs.Numerals.{Decimal, Trimmed, more, trimmed, none-yet, natural, digits, isDigit, isPoint, isLetter, isInteger, integer, before, after, mantissa, places, exponent, negative, signed, scaled, decimal, timesTen, wholeOf}
+use Rattle.utf8.specs.Ascii.{isDigit}
+use Rattle.utf8.specs.Laws.{clash}
+use Rattle.numerals.specs.Numerals.{Decimal, Trimmed, more, trimmed, none-yet, natural, digits, isPoint, isLetter, isInteger, integer, before, after, mantissa, places, exponent, negative, signed, scaled, decimal, timesTen, wholeOf}
 
 -- ---- the digits write m times ten to the zeros
 
@@ -44,14 +46,11 @@ abbrev Small : List ℕ → Type 0
 Small [] = Unit {0}
 Small (d ∷ ds) = (d < 10) × Small ds
 
-pub clash : false ≡ true → ⊥
-clash e = let z : _≡_ {A = ℕ} 0 1 = cc in omega arith
-
 -- the bounds of a digit
 digit-bounds : (b : ℕ) (x y : Bool) → leb 48 b ≡ x → leb b 57 ≡ y → x && y ≡ true → (48 ≤ b) × (b - 48 < 10)
 digit-bounds b true true p q e = (leb-true 48 b p, omega (arith, leb-true b 57 q))
-digit-bounds b true false p q e = absurd (clash e)
-digit-bounds b false y p q e = absurd (clash e)
+digit-bounds b true false p q e = clash cc
+digit-bounds b false y p q e = clash cc
 
 module _ (b : ℕ) (e : true ≡ isDigit b) where
   pub digit-low : 48 ≤ b
@@ -93,7 +92,8 @@ canonical-scaled neg t e (inr q) = inr (rw (ne-eqb (t .m) 0 (λ z. q (rw z)), na
 pub canonical : (raw : List ℕ) → Canonical (decimal raw)
 unfolding decimal
 canonical raw =
-    canonical-scaled (negative raw) (trimmed none-yet (digits (mantissa raw))) (exponent raw -ℤ pos (places raw)) (trim none-yet (digits (mantissa raw)) (inl refl) (small (mantissa raw)))
+    let ds = digits (mantissa raw) in
+    canonical-scaled (negative raw) (trimmed none-yet ds) (exponent raw -ℤ pos (places raw)) (trim none-yet ds (inl refl) (small (mantissa raw)))
 
 -- ---- the pair of an integer
 
@@ -126,8 +126,8 @@ lacks-more test b s e h = record { all = before-no test b s e ∙ ap (λ l. b �
 -- a byte of an integer is neither a point nor a letter
 clear : (p l i : Bool) → not (p || l) && i ≡ true → (p ≡ false) × (l ≡ false) × (i ≡ true)
 clear false false i e = (refl, refl, e)
-clear false true i e = absurd (clash e)
-clear true l i e = absurd (clash e)
+clear false true i e = clash cc
+clear true l i e = clash cc
 
 plain : (raw : List ℕ) → isInteger raw ≡ true → Lacks isPoint raw × Lacks isLetter raw
 unfolding isInteger before after
@@ -137,22 +137,26 @@ plain (b ∷ s) e =
     let h = plain s (c .2) in
     (lacks-more isPoint b s (c .0) (h .0), lacks-more isLetter b s (c .1) (h .1))
 
+-- zero has no sign
+pub zero-signed : (neg : Bool) → pos 0 ≡ signed neg 0
+unfolding signed
+zero-signed true = refl
+zero-signed false = refl
+
+-- a number with its sign, times a number that has none
+pub times-signed : (neg : Bool) (m k : ℕ) → signed neg m *ℤ pos k ≡ signed neg (m * k)
+unfolding signed
+times-signed true zero k = rw zero-mul
+times-signed true (suc m) k = refl
+times-signed false m k = refl
+
 whole-scaled : (neg : Bool) (t : Trimmed) → wholeOf (scaled neg t (pos 0)) ≡ signed neg (t .m * 10 ^ t .zeros)
-unfolding wholeOf scaled signed timesTen
+unfolding wholeOf scaled timesTen
 whole-scaled neg t = by-cases (t .m) (eqb (t .m) 0) refl
   where
-    zero-signed : (neg : Bool) → pos 0 ≡ signed neg 0
-    zero-signed true = refl
-    zero-signed false = refl
-
-    times : (neg : Bool) (m k : ℕ) → signed neg m *ℤ pos k ≡ signed neg (m * k)
-    times true zero k = rw zero-mul
-    times true (suc m) k = refl
-    times false m k = refl
-
     by-cases : (m : ℕ) (z : Bool) → eqb m 0 ≡ z → wholeOf (cond z (record { m = pos 0; e = pos 0 }) (record { m = signed neg m; e = pos (t .zeros + 0) })) ≡ signed neg (m * 10 ^ t .zeros)
     by-cases m true e = rw (eqb-true m 0 e, zero-mul (10 ^ t .zeros)) (zero-signed neg)
-    by-cases m false e = rw add-zero (times neg m (10 ^ t .zeros))
+    by-cases m false e = rw add-zero (times-signed neg m (10 ^ t .zeros))
 
 -- a numeral with no fraction and no exponent: its pair, m times ten to the e, is the integer that its digits write
 pub whole : (raw : List ℕ) → isInteger raw ≡ true → wholeOf (decimal raw) ≡ integer raw

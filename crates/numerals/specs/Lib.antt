@@ -3,3 +3,4 @@ pub mod Numerals
 pub mod Examples
 pub mod Laws
 pub mod Reading
+pub mod Values

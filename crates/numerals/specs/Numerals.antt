@@ -7,6 +7,7 @@ use mathlib.Core.List.{List, [], _∷_, _++_}
 use lib.ListN.{length, getD}
 use lib.Dec.{eqb, leb, ltb}
 use lib.IntN.{ℤ, pos, negsuc, negℤ, natAbs, _+ℤ_, _-ℤ_, _*ℤ_}
+use Rattle.utf8.specs.Ascii.{isDigit}
 
 -- m times ten to the e
 pub record Decimal : Type 0 where
@@ -22,15 +23,12 @@ unfoldable pub after : (ℕ → Bool) → List ℕ → List ℕ
 after test [] = []
 after test (b ∷ s) = elim (test b) [ true ↦ s | false ↦ after test s ]
 
--- a decimal point; the letter before an exponent; a digit
+-- a decimal point; the letter before an exponent
 unfoldable pub isPoint : ℕ → Bool
 isPoint b = eqb b 46
 
 unfoldable pub isLetter : ℕ → Bool
 isLetter b = eqb b 101 || eqb b 69
-
-unfoldable pub isDigit : ℕ → Bool
-isDigit b = leb 48 b && leb b 57
 
 -- the values of the digits among the bytes
 unfoldable pub digits : List ℕ → List ℕ

@@ -9,7 +9,8 @@ use lib.ListN.{length}
 use lib.Dec.{eqb, ltb}
 use lib.Seq.{slice}
 use lib.IntN.{ℤ, pos, natAbs, _+ℤ_, _-ℤ_}
-use Rattle.numerals.specs.Numerals.{Decimal, isDigit, isPoint, isLetter, isInteger, integer, fits32, digits, natural, negative, signed, mantissa, after}
+use Rattle.utf8.specs.Ascii.{isDigit}
+use Rattle.numerals.specs.Numerals.{Decimal, isPoint, isLetter, isInteger, integer, fits32, digits, natural, negative, signed, mantissa, after}
 use Rattle.numerals.specs.declared.Numeral.{Numeral}
 use Rattle.numerals.specs.declared.Numeral.the-variants.{Pair, Out}
 use Rattle.numerals.specs.declared.Whole.{Whole}

@@ -6,6 +6,7 @@ ghost use mathlib.Core.Path.{_≡_};
 ghost use lib.ListN.{length};
 ghost use lib.Seq.{slice};
 ghost use lib.IntN.{subℕ};
+ghost use Rattle.utf8.specs.Ascii.{isDigit};
 ghost use Rattle.numerals.specs.Numerals as spec;
 ghost use Rattle.numerals.specs.Reading.{pairIn, saturated, IsWhole, allDigits, Quick, Short, taken, capped, Room, Reads, Reaches, powerOf};
 
@@ -43,7 +44,7 @@ enum Power {
 
 // Is it a digit?
 fn is_digit(b: u8) -> bool
-    ensures { λ r. ⌜ r ≡ spec.isDigit b ⌝ }
+    ensures { λ r. ⌜ r ≡ isDigit b ⌝ }
 {
     match b {
         b'0'..=b'9' => true,

@@ -9,10 +9,10 @@ use lib.Dec.{leb, eqb}
 use borrow.Author.Tests.{leb-true}
 use mir.Val.{Fits}
 use mir.Syntax.{w64}
+use Rattle.utf8.specs.Ascii.{isDigit}
 use Rattle.utf8.specs.Laws.{both-left, both-right, never}
 use Rattle.strings.specs.Strings.{decode}
 use Rattle.strings.specs.Spans.{Span, decodeAt, Copied}
-use Rattle.json.specs.Machine.{isDigit}
 use Rattle.words.specs.Words.{surfaceWords, codeOf, isAdded, isLod}
 use Rattle.nodes.specs.Access.{isStringValue}
 use Rattle.nodes.specs.Says.{Gives, GivesFound}

@@ -10,11 +10,11 @@ use mathlib.Core.Option as option
 use lib.ListN.{length, getD}
 use lib.Dec.{eqb, leb, ltb}
 use borrow.Author.Tests.{eqb-false, ne-eqb, leb-true, not-true}
+use Rattle.utf8.specs.Ascii.{isDigit}
 use Rattle.utf8.specs.Utf8.{same}
 use Rattle.utf8.specs.Laws.{both-left, both-right, never, same-equal, same-refl}
 use Rattle.words.specs.Words.{objectWords, geometryWords, surfaceWords, codeOf, isOne, is, isAdded, isLod, depth, valuesDepth, isPermitted}
 use Rattle.words.specs.Laws.{one-has-code, code-most}
-use Rattle.json.specs.Machine.{isDigit}
 use Rattle.json.specs.Tree.{Json, null}
 use Rattle.nodes.specs.Access.{isStringValue, elements, members, Member, nameOf, textOf, find, firstNamed}
 use Rattle.everywhere.specs.Everywhere.{among, rule5, rule6}

@@ -1,7 +1,7 @@
 -- Numbers, boundaries and values in which rules 12 and 13 find no fault read as numbers in range and as nests of one shape. Assumes nothing.
 use Prim.Native.Nat.{ℕ, zero, suc, _^_, _≤_, _<_}
 use native.Mathlib.Omega.{arith}
-use mathlib.Core.Path.{_≡_, refl, sym, _∙_, subst}
+use mathlib.Core.Path.{_≡_, refl, sym, subst}
 use mathlib.Core.Bool.{Bool, true, false, cond, _&&_, _||_}
 use mathlib.Core.List.{List, [], _∷_, map}
 use mathlib.Core.Option.{some}
@@ -12,7 +12,7 @@ use lib.IntN.{ℤ, pos, negsuc, natAbs}
 use lib.Signed.{mag}
 use borrow.Author.Tests.{ltb-true, leb-true, eqb-true}
 use Rattle.utf8.specs.Laws.{both-left, both-right, never}
-use Rattle.numerals.specs.Numerals.{Decimal, decimal, inRange, pairOf, isInteger, integer, fits32, isBelow, timesTen, wholeOf}
+use Rattle.numerals.specs.Numerals.{Decimal, decimal, inRange, pairOf, isInteger, integer, fits32, isBelow, wholeOf}
 use Rattle.numerals.specs.Laws.{whole}
 use Rattle.json.specs.Tree.{Json, null, bool, num, str, arr, obj}
 use Rattle.nodes.specs.Access.{isNullValue, isNumberValue, isArrayValue, elements, numeralOf}
@@ -21,28 +21,17 @@ use Rattle.shapes.specs.Shapes.{isIntegerValue, allIntegers, holdsThree, isPair
 use Rattle.schema.specs.Schema.{threePairs}
 use Rattle.model.specs.Code.{All}
 use Rattle.model.specs.Good.{AllThree, Leaves, GoodDecimal, GoodVertex, GoodValue, Both, Shaped}
-use Rattle.model.specs.Read.{numberOf, zeroIfNone, decimalOf, times, integerOf, natural, indexOf, valueOf, threeOf, nestOf}
+use Rattle.model.specs.Read.{numberOf, zeroIfNone, decimalOf, integerOf, natural, indexOf, valueOf, threeOf, nestOf}
 use Rattle.sheets.specs.Clear.{nil-left, nil-right, cond-left, kept, numeral-ok, clear, all-both, all-map, each-clear, both-good, each-good}
 
 -- ---- integers
-
--- the model's reading of a pair as an integer is that of `numerals`
-times-ten : (m e : ℤ) → times m e ≡ timesTen m e
-unfolding times timesTen
-times-ten m (pos k) = refl
-times-ten m (negsuc k) = refl
-
--- so an integer is read as what its digits write
-whole-read : (raw : List ℕ) → isInteger raw ≡ true → times (decimal raw .m) (decimal raw .e) ≡ integer raw
-unfolding wholeOf
-whole-read raw e = times-ten (decimal raw .m) (decimal raw .e) ∙ whole raw e
 
 -- what the rules read of an integer is what the model reads
 pub integer-read : (v : Json) → isIntegerValue v ≡ true → integerOf v ≡ integer (numeralOf v)
 unfolding isIntegerValue integerOf decimalOf numberOf zeroIfNone
 integer-read (null p e) h = cc
 integer-read (bool p e b) h = cc
-integer-read (num p e raw) h = whole-read raw h
+integer-read (num p e raw) h = whole raw h
 integer-read (str p e raw) h = cc
 integer-read (arr p e vs) h = cc
 integer-read (obj p e ms) h = cc
@@ -201,7 +190,7 @@ vertex-clear v e = of (isTriple v) refl e
     of false q d = absurd (never (kept false 12 v d) refl)
 
 pub vertex-good : (v : Json) → vertex v ≡ [] → GoodVertex (threeOf integerOf v)
-unfolding integerOf decimalOf numberOf zeroIfNone times
+unfolding integerOf decimalOf numberOf zeroIfNone wholeOf
 vertex-good v e =
     let (l, i, c) = vertex-clear v e in
     three-good integerOf (λ z. mag z < 2 ^ 31) (omega arith) v

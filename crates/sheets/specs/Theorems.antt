@@ -1,23 +1,30 @@
 -- What is proved of lay's answers and of the lent sheet, for texts and rooms of any sizes (document 01, demand 3 and "Town and sheet"). Assumes nothing.
 use Prim.Native.Nat.{ℕ, _-_, _^_, _≤_, _<_}
-use mathlib.Core.Path.{_≡_, sym, ap, _∙_}
+use native.Mathlib.Omega.{arith}
+use mathlib.Core.Path.{_≡_, refl, sym, ap, _∙_}
+use mathlib.Core.Bool.{Bool, true, false, cond}
 use mathlib.Core.List.{List, _++_, List·Memᴰ}
-use mathlib.Core.Logic.{_≢_, _↔_}
+use mathlib.Core.Logic.{_⊎_, inl, inr, _≢_, _↔_}
 use lib.ListN.{length, take, replicate, length-map}
+use lib.Dec.{leb}
+use borrow.Author.Tests.{le-leb, leb-false}
 use Rattle.utf8.specs.Utf8.{Whole}
+use Rattle.utf8.specs.Laws.{clash}
 use Rattle.strings.specs.Strings.{decode}
 use Rattle.json.specs.Tree.{Name}
 use Rattle.json.specs.Machine.{treeOf}
 use Rattle.nodes.specs.Access.{members}
 use Rattle.everywhere.specs.Everywhere.{strings}
-use Rattle.verdict.specs.Verdict.{accepted, verdict}
+use Rattle.verdict.specs.Verdict.{Verdict, accepted, verdict}
+use Rattle.verdict.specs.Verdict as judge
+use Rattle.verdict.specs.Exact.{Breaks, Least, accepted-exactly, refused-exactly}
 use Rattle.model.specs.Model.{sheetOf}
 use Rattle.model.specs.Good.{GoodModel}
 use Rattle.model.specs.Read.{get, objectOf, modelOf}
 use Rattle.model.specs.Demand.{same-sheet-same-model, Begins, neither-begins}
 use Rattle.model.specs.Alike.{Alike, alike-same-model}
 use Rattle.model.specs.AlikeLaws.{alike-self, alike-sym}
-use Rattle.sheets.specs.Laid.{modelOfText, sheetOfText, laid, refused, answer, roomAfter}
+use Rattle.sheets.specs.Laid.{modelOfText, sheetOfText, laid, refused, fitted, answer, roomAfter}
 use Rattle.sheets.specs.Clear.{objects-members}
 use Rattle.sheets.specs.Characters.{WholeTexts, whole-strings, whole-model}
 use Rattle.sheets.specs.Answers.{good-text, distinct-names, object-count, of-laid, holds-sheet, begins-sheet, holds-zeros, room-length, same-answer, same-room, too-long, does-not-fit}
@@ -74,6 +81,36 @@ room = room-length
 -- 18 is answered exactly if the text is accepted and its sheet is longer than the room
 pub eighteen : (x : List ℕ) (r : ℕ) → (answer x r ≡ refused 18 0) ↔ (((n : ℕ) × (verdict x ≡ accepted n)) × (r < length (sheetOfText x)))
 eighteen x r = (too-long x r, (λ ((n, e), h). does-not-fit x r n e h))
+
+-- demand 2 for lay: a text is laid exactly if it breaks no rule and its sheet fits
+pub laid-exactly : (x : List ℕ) (r : ℕ) → ((l n : ℕ) × (answer x r ≡ laid l n)) ↔ (((s p : ℕ) → Breaks x s p → ⊥) × (length (sheetOfText x) ≤ r))
+unfolding answer fitted
+laid-exactly x r = (
+  (λ (l, n, e). let q = of-laid x r l n e in (accepted-exactly x .0 (n, q .accepted), omega (arith, q .size, q .fits))),
+  (λ (f, h). let (n, e) = accepted-exactly x .1 f in (length (sheetOfText x), n, rw (e, le-leb (length (sheetOfText x)) r h))),
+)
+
+-- the text breaks no rule and its sheet is longer than the room: 18 at 0
+abbrev pub NoRoom : List ℕ → ℕ → ℕ → ℕ → Type 0
+NoRoom x r s p = (s ≡ 18) × (p ≡ 0) × ((t q : ℕ) → Breaks x t q → ⊥) × (r < length (sheetOfText x))
+
+-- and is refused exactly by the lowest broken rule at its earliest place, or by 18 at 0 where only the room is too short
+pub refused-lowest : (x : List ℕ) (r s p : ℕ) → (answer x r ≡ refused s p) ↔ (Least x s p ⊎ NoRoom x r s p)
+unfolding answer fitted
+refused-lowest x r s p = ((λ e. to (verdict x) refl e), from)
+  where
+    to-room : (k : ℕ) (b : Bool) → verdict x ≡ accepted k → leb (length (sheetOfText x)) r ≡ b
+        → cond b (laid (length (sheetOfText x)) k) (refused 18 0) ≡ refused s p → NoRoom x r s p
+    to-room k true q h c = clash cc
+    to-room k false q h c = let a : s ≡ 18 = cc in let b : p ≡ 0 = cc in (a, b, accepted-exactly x .0 (k, q), leb-false _ r h)
+
+    to : (o : Verdict) → verdict x ≡ o → fitted x r o ≡ refused s p → Least x s p ⊎ NoRoom x r s p
+    to (judge.accepted k) q d = inr (to-room k (leb (length (sheetOfText x)) r) q refl d)
+    to (judge.refused t u) q d = let a : t ≡ s = cc in let b : u ≡ p = cc in inl (refused-exactly x s p .0 (rw (a, b) at q))
+
+    from : Least x s p ⊎ NoRoom x r s p → answer x r ≡ refused s p
+    from (inl a) = rw (refused-exactly x s p .1 a)
+    from (inr h) = rw (h .0, h .1) (eighteen x r .1 (accepted-exactly x .1 (h .2), h .3))
 
 -- alike texts have the same model and the same sheet
 pub alike : (x y : List ℕ) → Alike (treeOf x) (treeOf y) → (modelOfText x ≡ modelOfText y) × (sheetOfText x ≡ sheetOfText y)

@@ -2,31 +2,41 @@
 use Prim.Native.Nat.{ℕ, _+_, _*_, _/_, _%_, _≤_, _<_, min}
 use native.Mathlib.Omega.{arith}
 use native.Mathlib.Decide.{decLt}
-use mathlib.Core.Path.{_≡_, refl}
+use mathlib.Core.Path.{_≡_, refl, ap, _∙_}
 use mathlib.Core.Bool.{cond}
 use mathlib.Core.List.{List, [], _∷_, List·Memᴰ, List·Memᴰ·head, List·Memᴰ·tail, List·Memᴰ·not-nil}
 use mathlib.Core.Logic.{_⊎_, inl, inr, _↔_}
-use lib.ListN.{length}
+use lib.ListN.{length, take}
 use lib.Dec.{ltb}
 use borrow.Author.Tests.{lt-ltb, le-ltb}
 use Rattle.utf8.specs.Utf8.{wholeLength}
-use Rattle.utf8.specs.Laws.{clash}
 use Rattle.json.specs.Tree.{Json}
 use Rattle.json.specs.Machine.{Outcome, reads, bad, tooDeep, read}
-use Rattle.grammar.specs.Theorems.{read-text, ordered}
+use Rattle.json.specs.Grammar.{Text, Begins}
+use Rattle.grammar.specs.Theorems.{read-text, one-tree, ordered, Stopped, stops, stops-exactly, bad-never, deep-deeper}
+use Rattle.grammar.specs.Reaches.{shorter, begun}
 use Rattle.nodes.specs.Faults.{fault, ruleOf, placeIn, least, none}
 use Rattle.fields.specs.Fields.{objectsOf}
 use Rattle.model.specs.Code.{All}
 use Rattle.verdict.specs.Verdict.{Verdict, accepted, refused, faults, given, judged, parsed, verdict}
 use Rattle.verdict.specs.Places.{Small, Placed, faults-small}
 
--- the text breaks the rule at the place: rules 5 to 17 in the tree of a text that is not too long
+-- the longest prefix of x that begins some JSON text of at most 32 levels has n bytes
+pub record Longest (x : List ℕ) (n : ℕ) : Type 0 where
+  pub inside : n ≤ length x
+  pub begins : Begins 32 (take n x)
+  pub longest : (m : ℕ) → m ≤ length x → Begins 32 (take m x) → m ≤ n
+
+-- the text breaks the rule at the place: rules 3 and 4 by the grammar alone, rules 5 to 17 in the tree of a text that is not too long.
+-- "If n is short of the text, the place is n, with 4 when n+1 bytes still begin a deeper JSON text and 3 otherwise" (`too-deep`, `not-json`);
+-- "If n is the whole length and the text is incomplete: 3 at n" (`incomplete`)
 pub data Breaks (x : List ℕ) : ℕ → ℕ → Type 0 where
   too-long : 65535 < length x → Breaks x 1 65535
   not-utf8 : wholeLength x < length x → Breaks x 2 (wholeLength x)
-  not-json : {p : ℕ} → read x ≡ bad p → Breaks x 3 p
-  too-deep : {p : ℕ} → read x ≡ tooDeep p → Breaks x 4 p
-  in-tree : {r p : ℕ} (v : Json) → length x ≤ 65535 → read x ≡ reads v → p < 65536 → List·Memᴰ (fault r p) (faults v) → Breaks x r p
+  not-json : {n : ℕ} → Longest x n → n < length x → ((l : ℕ) → Begins l (take (n + 1) x) → ⊥) → Breaks x 3 n
+  incomplete : {n : ℕ} → Longest x n → n ≡ length x → ((v : Json) → Text 32 x v → ⊥) → Breaks x 3 n
+  too-deep : {n l : ℕ} → Longest x n → n < length x → Begins l (take (n + 1) x) → Breaks x 4 n
+  in-tree : {r p : ℕ} (v : Json) → length x ≤ 65535 → Text 32 x v → p < 65536 → List·Memᴰ (fault r p) (faults v) → Breaks x r p
 
 -- the first is a lower rule than the second, or the same at a place that is no later
 abbrev pub NoLater : ℕ → ℕ → ℕ → ℕ → Type 0
@@ -68,6 +78,32 @@ pub verdict-read : (x : List ℕ) → length x ≤ 65535 → length x ≤ wholeL
 unfolding verdict
 verdict-read x h k = rw (le-ltb 65535 (length x) h, le-ltb (wholeLength x) (length x) k, verdict)
 
+-- ---- rules 3 and 4
+
+-- where the machine stops, it has read the longest prefix
+stopped : (x : List ℕ) (p : ℕ) → Stopped x p → Longest x p
+stopped x p e = let (h, b, f) = stops x p e in record { inside = h; begins = b; longest = λ m k c. by f m k c (decLt p m) }
+  where
+    by : (p < length x → Begins 32 (take (p + 1) x) → ⊥) → (m : ℕ) → m ≤ length x → Begins 32 (take m x) → Dec (p < m) → m ≤ p
+    by f m k c (yes d) = absurd (f (omega arith) (shorter x (p + 1) m (omega arith) c))
+    by f m k c (no d) = omega arith
+
+-- there is one
+one-longest : {x : List ℕ} {n k : ℕ} → Longest x n → Longest x k → n ≡ k
+one-longest {x} {n} {k} a b = omega (arith, a .longest k (b .inside) (b .begins), b .longest n (a .inside) (a .begins))
+
+-- and it is all of a JSON text
+all-of : {x : List ℕ} {n : ℕ} {v : Json} → Text 32 x v → Longest x n → n ≡ length x
+all-of {x} d a = omega (arith, a .inside, a .longest (length x) (omega arith) (begun d))
+
+-- where the machine says that the text is bad, rule 3 is broken
+bad-breaks : (x : List ℕ) (p : ℕ) → read x ≡ bad p → Breaks x 3 p
+bad-breaks x p e = by (stopped x p (inl e)) (decLt p (length x))
+  where
+    by : Longest x p → Dec (p < length x) → Breaks x 3 p
+    by a (yes h) = not-json a h (bad-never x p e h)
+    by a (no h) = incomplete a (omega (arith, a .inside)) (stops-exactly x p .0 (inl e) .0)
+
 -- ---- rules 5 to 17
 
 -- the tree of a text that is not too long stands in the first bytes
@@ -79,9 +115,9 @@ one-of (List·Memᴰ·head e) a = rw e (a .0)
 one-of (List·Memᴰ·tail m) a = one-of m (a .1)
 
 -- a fault in such a tree
-module _ (x : List ℕ) (v : Json) (s q : ℕ) (h : length x ≤ 65535) (e : read x ≡ reads v) (k : q < 65536) (m : List·Memᴰ (fault s q) (faults v)) where
+module _ (x : List ℕ) (v : Json) (s q : ℕ) (h : length x ≤ 65535) (d : Text 32 x v) (k : q < 65536) (m : List·Memᴰ (fault s q) (faults v)) where
   small : Small (fault s q)
-  small = one-of m (faults-small v (in-text x v h e))
+  small = one-of m (faults-small v (in-text x v h (read-text x v .1 d)))
 
   five : 5 ≤ s
   unfolding fault
@@ -92,40 +128,45 @@ module _ (x : List ℕ) (v : Json) (s q : ℕ) (h : length x ≤ 65535) (e : rea
 one-first : (x : List ℕ) → 65535 < length x → (s q : ℕ) → Breaks x s q → NoLater 1 65535 s q
 one-first x h s q (too-long k) = inr (refl, omega arith)
 one-first x h s q (not-utf8 k) = inl (omega arith)
-one-first x h s q (not-json e) = inl (omega arith)
-one-first x h s q (too-deep e) = inl (omega arith)
-one-first x h s q (in-tree v l e k m) = absurd (omega arith)
+one-first x h s q (not-json a k f) = inl (omega arith)
+one-first x h s q (incomplete a k f) = inl (omega arith)
+one-first x h s q (too-deep a k b) = inl (omega arith)
+one-first x h s q (in-tree v l d k m) = absurd (omega arith)
 
 two-first : (x : List ℕ) → length x ≤ 65535 → (s q : ℕ) → Breaks x s q → NoLater 2 (wholeLength x) s q
 two-first x h s q (too-long k) = absurd (omega arith)
 two-first x h s q (not-utf8 k) = inr (refl, omega arith)
-two-first x h s q (not-json e) = inl (omega arith)
-two-first x h s q (too-deep e) = inl (omega arith)
-two-first x h s q (in-tree v l e k m) = inl (omega (arith, five x v s q l e k m))
+two-first x h s q (not-json a k f) = inl (omega arith)
+two-first x h s q (incomplete a k f) = inl (omega arith)
+two-first x h s q (too-deep a k b) = inl (omega arith)
+two-first x h s q (in-tree v l d k m) = inl (omega (arith, five x v s q l d k m))
 
 module _ (x : List ℕ) (h : length x ≤ 65535) (w : length x ≤ wholeLength x) where
-  three-first : (p : ℕ) → read x ≡ bad p → (s q : ℕ) → Breaks x s q → NoLater 3 p s q
+  three-first : (p : ℕ) → Longest x p → (s q : ℕ) → Breaks x s q → NoLater 3 p s q
   three-first p r s q (too-long k) = absurd (omega arith)
   three-first p r s q (not-utf8 k) = absurd (omega arith)
-  three-first p r s q (not-json e) = let z : p ≡ q = cc in inr (refl, omega arith)
-  three-first p r s q (too-deep e) = inl (omega arith)
-  three-first p r s q (in-tree v l e k m) = inl (omega (arith, five x v s q l e k m))
+  three-first p r s q (not-json a k f) = inr (refl, omega (arith, one-longest r a))
+  three-first p r s q (incomplete a k f) = inr (refl, omega (arith, one-longest r a))
+  three-first p r s q (too-deep a k b) = inl (omega arith)
+  three-first p r s q (in-tree v l d k m) = inl (omega (arith, five x v s q l d k m))
 
-  four-first : (p : ℕ) → read x ≡ tooDeep p → (s q : ℕ) → Breaks x s q → NoLater 4 p s q
-  four-first p r s q (too-long k) = absurd (omega arith)
-  four-first p r s q (not-utf8 k) = absurd (omega arith)
-  four-first p r s q (not-json e) = clash cc
-  four-first p r s q (too-deep e) = let z : p ≡ q = cc in inr (refl, omega arith)
-  four-first p r s q (in-tree v l e k m) = inl (omega (arith, five x v s q l e k m))
+  four-first : (p l : ℕ) → Longest x p → p < length x → Begins l (take (p + 1) x) → (s q : ℕ) → Breaks x s q → NoLater 4 p s q
+  four-first p l r i b s q (too-long k) = absurd (omega arith)
+  four-first p l r i b s q (not-utf8 k) = absurd (omega arith)
+  four-first p l r i b s q (not-json a k f) = absurd (f l (rw (one-longest r a) at b))
+  four-first p l r i b s q (incomplete a k f) = absurd (omega (arith, one-longest r a))
+  four-first p l r i b s q (too-deep a k c) = inr (refl, omega (arith, one-longest r a))
+  four-first p j r i b s q (in-tree v l d k m) = inl (omega (arith, five x v s q l d k m))
 
-  tree-first : (v : Json) → read x ≡ reads v → (s q : ℕ) → Breaks x s q → NoLater (ruleOf (least none (faults v))) (placeIn (least none (faults v))) s q
+  tree-first : (v : Json) → Text 32 x v → (s q : ℕ) → Breaks x s q → NoLater (ruleOf (least none (faults v))) (placeIn (least none (faults v))) s q
   unfolding ruleOf placeIn fault
   tree-first v r s q (too-long k) = absurd (omega arith)
   tree-first v r s q (not-utf8 k) = absurd (omega arith)
-  tree-first v r s q (not-json e) = clash cc
-  tree-first v r s q (too-deep e) = clash cc
-  tree-first v r s q (in-tree u l e k m) =
-      let z : u ≡ v = cc in
+  tree-first v r s q (not-json a k f) = absurd (omega (arith, all-of r a))
+  tree-first v r s q (incomplete a k f) = absurd (f v r)
+  tree-first v r s q (too-deep a k b) = absurd (omega (arith, all-of r a))
+  tree-first v r s q (in-tree u l d k m) =
+      let z : u ≡ v = one-tree 32 x u v d r in
       let f = least none (faults v) in
       let low : f ≤ s * 65536 + q = rw z at (least-low none m) in
       by f low (decLt (f / 65536) s)
@@ -161,11 +202,22 @@ split f = omega arith
 
 breaks : (x : List ℕ) (v : Json) → length x ≤ 65535 → read x ≡ reads v → {f : ℕ} → List·Memᴰ f (faults v) → Breaks x (ruleOf f) (placeIn f)
 unfolding placeIn
-breaks x v h e {f} m = in-tree {r = ruleOf f} {p = placeIn f} v h e (omega arith) (rw (split f) m)
+breaks x v h e {f} m = in-tree {r = ruleOf f} {p = placeIn f} v h (read-text x v .0 e) (omega arith) (rw (split f) m)
 
 least-none : (fs : List ℕ) → All Small fs → none ≤ least none fs → fs ≡ []
 least-none [] a h = refl
 least-none (f ∷ fs) a h = let m : List·Memᴰ f (f ∷ fs) = List·Memᴰ·head refl in absurd (omega (arith, a .0 .1, least-low none m))
+
+-- the verdict of a text that is no JSON text, or too deep
+module _ (x : List ℕ) (h : length x ≤ 65535) (w : length x ≤ wholeLength x) (p : ℕ) where
+  of-bad : read x ≡ bad p → Case x (refused 3 p)
+  of-bad e = broken (record { broken = bad-breaks x p e; least = three-first x h w p (stopped x p (inl e)) })
+
+  of-deep : read x ≡ tooDeep p → Case x (refused 4 p)
+  of-deep e =
+      let (k, b) = deep-deeper x p e in
+      let a = stopped x p (inr e) in
+      broken (record { broken = too-deep a k b; least = four-first x h w p 33 a k b })
 
 -- the tree's verdict
 of-tree : (x : List ℕ) (v : Json) → length x ≤ 65535 → length x ≤ wholeLength x → read x ≡ reads v → Case x (judged v)
@@ -177,7 +229,7 @@ of-tree x v h w e = by (decLt (least none (faults v)) none)
     found (inr m) k = m
 
     by : Dec (least none (faults v) < none) → Case x (cond (ltb (least none (faults v)) none) (refused (ruleOf (least none (faults v))) (placeIn (least none (faults v)))) (accepted (length (objectsOf v))))
-    by (yes k) = rw (lt-ltb (least none (faults v)) none k) (broken (record { broken = breaks x v h e (found (least-in none (faults v)) k); least = tree-first x h w v e }))
+    by (yes k) = rw (lt-ltb (least none (faults v)) none k) (broken (record { broken = breaks x v h e (found (least-in none (faults v)) k); least = tree-first x h w v (read-text x v .0 e) }))
     by (no k) = rw (le-ltb (least none (faults v)) none (omega arith)) (clean (record { short = h; whole = w; value = v; reads = e; clean = least-none (faults v) (faults-small v (in-text x v h e)) (omega arith); count = refl }))
 
 cases : (x : List ℕ) → Case x (verdict x)
@@ -188,8 +240,8 @@ cases x = by (decLt 65535 (length x)) (decLt (wholeLength x) (length x)) (read x
     by (yes h) d o e = rw (verdict-long x h) (broken (record { broken = too-long h; least = one-first x h }))
     by (no h) (yes k) o e = rw (verdict-odd x (omega arith) k) (broken (record { broken = not-utf8 k; least = two-first x (omega arith) }))
     by (no h) (no k) (reads v) e = rw (verdict-read x (omega arith) (omega arith), e) (of-tree x v (omega arith) (omega arith) e)
-    by (no h) (no k) (bad p) e = rw (verdict-read x (omega arith) (omega arith), e) (broken (record { broken = not-json e; least = three-first x (omega arith) (omega arith) p e }))
-    by (no h) (no k) (tooDeep p) e = rw (verdict-read x (omega arith) (omega arith), e) (broken (record { broken = too-deep e; least = four-first x (omega arith) (omega arith) p e }))
+    by (no h) (no k) (bad p) e = rw (verdict-read x (omega arith) (omega arith), e) (of-bad x (omega arith) (omega arith) p e)
+    by (no h) (no k) (tooDeep p) e = rw (verdict-read x (omega arith) (omega arith), e) (of-deep x (omega arith) (omega arith) p e)
 
 -- ---- demand 2 for judge
 
@@ -207,12 +259,16 @@ accepted-clean x n e = of (rw e at (cases x))
     of : Case x (accepted n) → Clean x n
     of (clean c) = c
 
+text-of : {x : List ℕ} {n : ℕ} (c : Clean x n) → Text 32 x (c .value)
+text-of {x} c = read-text x (c .value) .0 (c .reads)
+
 clean-none : (x : List ℕ) (n : ℕ) → Clean x n → (r p : ℕ) → Breaks x r p → ⊥
 clean-none x n c r p (too-long k) = omega (arith, c .short)
 clean-none x n c r p (not-utf8 k) = omega (arith, c .whole)
-clean-none x n c r p (not-json e) = let q = c .reads in clash cc
-clean-none x n c r p (too-deep e) = let q = c .reads in clash cc
-clean-none x n c r p (in-tree v l e k m) = let q = c .reads in let z : v ≡ c .value = cc in List·Memᴰ·not-nil (rw (z, c .clean) at m)
+clean-none x n c r p (not-json a k f) = omega (arith, all-of (text-of c) a)
+clean-none x n c r p (incomplete a k f) = f (c .value) (text-of c)
+clean-none x n c r p (too-deep a k b) = omega (arith, all-of (text-of c) a)
+clean-none x n c r p (in-tree v l d k m) = let z = one-tree 32 x v (c .value) d (text-of c) in List·Memᴰ·not-nil (rw (z, c .clean) at m)
 
 -- a text is accepted exactly if it breaks no rule
 pub accepted-exactly : (x : List ℕ) → ((n : ℕ) × (verdict x ≡ accepted n)) ↔ ((r p : ℕ) → Breaks x r p → ⊥)
@@ -221,3 +277,21 @@ accepted-exactly x = ((λ (n, e). clean-none x n (accepted-clean x n e)), (λ f.
     of : (o : Verdict) → verdict x ≡ o → ((r p : ℕ) → Breaks x r p → ⊥) → (n : ℕ) × (verdict x ≡ accepted n)
     of (accepted n) e f = (n, e)
     of (refused r p) e f = absurd (f r p (refused-least x r p e .broken))
+
+-- one rule and one place are the lowest
+one-least : {x : List ℕ} {r p s q : ℕ} → Least x r p → Least x s q → (r ≡ s) × (p ≡ q)
+one-least {r = r} {p} {s} {q} a b = by (a .least s q (b .broken)) (b .least r p (a .broken))
+  where
+    by : NoLater r p s q → NoLater s q r p → (r ≡ s) × (p ≡ q)
+    by (inl h) (inl k) = absurd (omega arith)
+    by (inl h) (inr k) = absurd (omega arith)
+    by (inr h) (inl k) = absurd (omega arith)
+    by (inr h) (inr k) = omega arith
+
+-- and is refused by a rule at a place exactly if that rule is the lowest broken one, and that place its earliest
+pub refused-exactly : (x : List ℕ) (r p : ℕ) → (verdict x ≡ refused r p) ↔ Least x r p
+refused-exactly x r p = (refused-least x r p, (λ a. of (verdict x) refl a))
+  where
+    of : (o : Verdict) → verdict x ≡ o → Least x r p → verdict x ≡ refused r p
+    of (accepted n) e a = absurd (accepted-exactly x .0 (n, e) r p (a .broken))
+    of (refused s q) e a = let (h, k) = one-least (refused-least x s q e) a in e ∙ ap (refused s) k ∙ ap (λ i. refused i p) h

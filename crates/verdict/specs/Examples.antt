@@ -3,9 +3,9 @@ use Prim.Native.Nat.{ℕ}
 use mathlib.Core.Path.{_≡_, refl}
 use mathlib.Core.List.{List, [], _++_}
 use lib.ListN.{replicate}
-use Rattle.utf8.specs.Ascii.{ascii}
+use Rattle.utf8.specs.Ascii.{ascii, isDigit}
 use Rattle.json.specs.Tree.{_◂_, with}
-use Rattle.json.specs.Machine.{step, wantStep, gotStep, nextStep, nameStep, mantStep, noughtStep, isBlank, isDigit, isHex, isEscape}
+use Rattle.json.specs.Machine.{step, wantStep, gotStep, nextStep, nameStep, mantStep, noughtStep, isBlank, isHex, isEscape}
 use Rattle.verdict.specs.Verdict.{Verdict, accepted, refused, verdict}
 
 -- opening this opens all that a verdict needs

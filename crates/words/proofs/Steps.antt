@@ -6,7 +6,7 @@ use mathlib.Core.List.{List, [], _∷_}
 use lib.ListN.{length}
 use lib.Dec.{eqb, leb, ltb}
 use borrow.Author.Tests.{eq-eqb, ne-eqb, le-leb, not-true, not-false}
-use Rattle.json.specs.Machine.{isDigit}
+use Rattle.utf8.specs.Ascii.{isDigit}
 use Rattle.strings.specs.Laws.{step-done, step-byte, ahead-start}
 use Rattle.strings.specs.Spans.{decodeAt, ahead, Steps}
 use Rattle.strings.specs.declared.Cursor.{Cursor}

@@ -5,9 +5,8 @@ use mathlib.Core.Bool.{Bool, false, cond, _&&_, _||_}
 use mathlib.Core.List.{List, [], _∷_}
 use lib.ListN.{length, getD}
 use lib.Dec.{eqb, ltb}
-use Rattle.utf8.specs.Ascii.{ascii}
+use Rattle.utf8.specs.Ascii.{ascii, isDigit}
 use Rattle.utf8.specs.Utf8.{same}
-use Rattle.json.specs.Machine.{isDigit}
 
 -- object types: the first level, codes 1 to 16, and the second level, 17 to 33
 unfoldable pub objectWords : List String

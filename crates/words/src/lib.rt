@@ -3,10 +3,10 @@ ghost use Prim.Native.Nat.{_+_, _<_};
 ghost use mathlib.Core.Path.{_≡_};
 ghost use mathlib.Core.Bool.{true};
 ghost use lib.ListN.{length};
+ghost use Rattle.utf8.specs.Ascii.{isDigit};
 ghost use Rattle.strings.specs.Spans.{Span, decodeAt};
 ghost use Rattle.words.specs.Words.{codeOf, objectWords, geometryWords, surfaceWords, isAdded, isAddedName, isLod, isPermitted, depth, valuesDepth};
 ghost use Rattle.words.specs.Tables.{wordsIn, inOrder, numberIn, tabled, looksSecondLevel};
-ghost use Rattle.json.specs.Machine.{isDigit};
 
 // An end as an offset.
 fn wide(w: u16) -> usize
