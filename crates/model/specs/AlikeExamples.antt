@@ -5,16 +5,16 @@ use mathlib.Core.Bool.{false}
 use Prim.Native.Nat.{ℕ}
 use Prim.Native.String.{String}
 use lib.IntN.{ℤ}
-use Rattle.utf8.specs.Ascii.{ascii}
+use Rattle.utf8.specs.Ascii.{ascii, isDigit}
 use Rattle.utf8.specs.Utf8.{same}
 use Rattle.utf8.specs.Laws.{never, same-refl}
 use Rattle.strings.specs.Strings.{decode}
-use Rattle.numerals.specs.Numerals.{decimal}
+use Rattle.numerals.specs.Numerals.{decimal, timesTen}
 use Rattle.json.specs.Tree.{Json, _◂_, with}
-use Rattle.json.specs.Machine.{treeOf, step, wantStep, gotStep, nextStep, nameStep, mantStep, noughtStep, isBlank, isDigit, isHex, isEscape}
+use Rattle.json.specs.Machine.{treeOf, step, wantStep, gotStep, nextStep, nameStep, mantStep, noughtStep, isBlank, isHex, isEscape}
 use Rattle.nodes.specs.Access.{listed, elements, members, textOf, find}
 use Rattle.model.specs.Model.{Three}
-use Rattle.model.specs.Read.{get, orNull, numberOf, zeroIfNone, decimalOf, times, integerOf, natural, threeOf, modelOf}
+use Rattle.model.specs.Read.{get, orNull, numberOf, zeroIfNone, decimalOf, integerOf, natural, threeOf, modelOf}
 use Rattle.model.specs.Alike.{Same, Agree, surfaceShape, semanticsShape, geometryShape, objectShape, transformShape, rootShape, Alike, same-text, alike-same-model}
 
 -- ---- the texts
@@ -132,5 +132,5 @@ type-differs a = differ _ _ refl (same-text _ _ (a .1 .1 .1 .0 .1 .0 .1 .0))
 
 -- another vertex
 vertex-differs : Alike (treeOf (roads "2.0" "Road" "Road" "0")) (treeOf (roads "2.0" "Road" "Road" "1")) → ⊥
-unfolding roads reading same modelOf get orNull numberOf zeroIfNone decimalOf times integerOf natural threeOf
+unfolding roads reading same modelOf get orNull numberOf zeroIfNone decimalOf timesTen integerOf natural threeOf
 vertex-differs a = differ _ _ refl (ap (λ t. map (λ (v : Three ℤ). natural (v .z)) (t .vertices)) (alike-same-model _ _ a))
