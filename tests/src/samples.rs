@@ -22,7 +22,7 @@ pub const MINIMAL: &str = concat!(
 );
 
 /// A text with the given members of `CityObjects` and the given vertices.
-pub fn town(objects: &str, vertices: &str) -> String {
+pub fn document(objects: &str, vertices: &str) -> String {
     let start = MINIMAL.split("{},").next().expect("the minimal object");
     format!(r#"{start}{{{objects}}},"vertices":[{vertices}]}}"#)
 }
@@ -31,7 +31,7 @@ pub fn town(objects: &str, vertices: &str) -> String {
 pub fn kiosk() -> String {
     let geometry = r#"{"type":"MultiPoint","lod":"1","boundaries":[0]}"#;
     let object = format!(r#""kiosk":{{"type":"CityFurniture","geometry":[{geometry}]}}"#);
-    town(&object, "[7,-1,256]")
+    document(&object, "[7,-1,256]")
 }
 
 /// The texts and the answers of lay in a room of 65,536 bytes.

@@ -1,7 +1,7 @@
 //! Cases written by hand. The expected values come from document 01; the reader gives them,
 //! and with the features `library` and `lay` the library also.
 
-use kebrawish_tests::samples::{self, town, MINIMAL};
+use kebrawish_tests::samples::{self, document, MINIMAL};
 use kebrawish_tests::{compare, Verdict};
 
 /// The answer of judge.
@@ -30,7 +30,7 @@ const OBJECTS: &str = concat!(
 /// A text with one CityFurniture that has one geometry, over one vertex.
 fn with_geometry(geometry: &str) -> String {
     let object = format!(r#""a":{{"type":"CityFurniture","geometry":[{geometry}]}}"#);
-    town(&object, "[0,0,0]")
+    document(&object, "[0,0,0]")
 }
 
 /// A geometry of lod 1.
@@ -135,7 +135,7 @@ fn semantics_and_links_on_the_sheet() {
     let parent = r#""p":{"type":"Building","children":["c"]}"#;
     let start = r#""c":{"type":"BuildingPart","parents":["p"]"#;
     let objects = format!(r#"{parent},{start},"geometry":[{solid}]}}"#);
-    let text = town(&objects, "[0,0,0]");
+    let text = document(&objects, "[0,0,0]");
     let (verdict, bytes) = lay(text.as_bytes(), 1_000);
     let mut tail = Vec::new();
     tail.extend([3, 0, 0, 0, 3, 0, 2, 0, b'p']);
@@ -237,8 +237,8 @@ fn unexamined_parts() {
     check_at(&inside(r#"[{"x":1,"\u0078":2}]"#), 6, r#""\u0078""#);
     let attributes = r#"{"type":1,"geometry":2,"children":{}}"#;
     let object = format!(r#""a":{{"type":"Road","lod":5,"attributes":{attributes}}}"#);
-    check(&town(&object, ""), accepted(1));
-    check_at(&town(r#""a":{"type":"Road","attributes":77}"#, ""), 7, "77");
+    check(&document(&object, ""), accepted(1));
+    check_at(&document(r#""a":{"type":"Road","attributes":77}"#, ""), 7, "77");
     let surfaces = r#"[{"type":"Door","children":"x","parent":{},"lod":0}]"#;
     let geometry = shape_with_semantics("MultiPoint", "[0]", surfaces, "[0]");
     check(&with_geometry(&geometry), accepted(1));
@@ -258,7 +258,7 @@ fn the_lowest_rule_then_the_least_place() {
 
 #[test]
 fn object_and_surface_types_with_plus() {
-    let object = |word: &str| town(&format!(r#""a":{{"type":"{word}"}}"#), "");
+    let object = |word: &str| document(&format!(r#""a":{{"type":"{word}"}}"#), "");
     check_at(&object("+"), 11, "\"+\"");
     check_at(&object("+Noise"), 11, "\"+Noise\"");
     check_at(&object("GeometryInstance"), 10, "\"GeometryInstance\"");
@@ -307,7 +307,7 @@ fn kinds() {
         assert_ne!(new, MINIMAL);
         new
     };
-    let object = |rest: &str| town(&format!(r#""a":{{"type":"Road"{rest}}}"#), "[0,0,0]");
+    let object = |rest: &str| document(&format!(r#""a":{{"type":"Road"{rest}}}"#), "[0,0,0]");
     let geometry = |text: &str| object(&format!(r#","geometry":[{text}]"#));
     let point = r#"{"type":"MultiPoint","lod":"1","boundaries":[0]"#;
     let semantics = |text: &str| geometry(&format!(r#"{point},"semantics":{text}}}"#));
@@ -321,14 +321,14 @@ fn kinds() {
             "{}",
         ),
         (root("CityObjects", "{}"), "{}"),
-        (town("\"a\":#", ""), "{}"),
+        (document("\"a\":#", ""), "{}"),
         (object(r#","attributes":#"#), "{}"),
         (geometry("#"), "{}"),
         (semantics("#"), "{}"),
         (semantics(r#"{"surfaces":[#],"values":[null]}"#), "{}"),
         (root("type", "\"CityJSON\""), "\"\""),
         (root("version", "\"2.0\""), "\"\""),
-        (town(r#""a":{"type":#}"#, ""), "\"\""),
+        (document(r#""a":{"type":#}"#, ""), "\"\""),
         (geometry(r#"{"type":#,"lod":"1","boundaries":[]}"#), "\"\""),
         (
             geometry(r#"{"type":"Solid","lod":#,"boundaries":[]}"#),
@@ -380,7 +380,7 @@ fn wrong_words() {
         check_at(&text, 10, &format!("\"{wrong}\""));
     }
     for wrong in ["", "road", "Roads", "Solid", "RoofSurface"] {
-        let text = town(&format!(r#""a":{{"type":"{wrong}"}}"#), "");
+        let text = document(&format!(r#""a":{{"type":"{wrong}"}}"#), "");
         check_at(&text, 10, &format!("\"{wrong}\""));
     }
     for wrong in ["", "solid", "Solids", "Road", "RoofSurface"] {
@@ -400,7 +400,7 @@ fn required_members() {
     }
     check_at(&MINIMAL.replace("\"scale\"", "\"x\""), 8, r#"{"x":["#);
     check_at(&MINIMAL.replace("\"translate\"", "\"x\""), 8, r#"{"scale""#);
-    check_at(&town(r#""a":  {"lod":"1"}"#, ""), 8, r#"{"lod""#);
+    check_at(&document(r#""a":  {"lod":"1"}"#, ""), 8, r#"{"lod""#);
     let geometry = r#"{"type":"MultiPoint","boundaries":[0]}"#;
     check_at(&with_geometry(geometry), 8, geometry);
     let geometry = r#"{"lod":"1","boundaries":[0]}"#;
@@ -423,7 +423,7 @@ fn object_counts() {
         let list: Vec<String> = (0..count)
             .map(|number| format!(r#""o{number}":{{"type":"Road"}}"#))
             .collect();
-        town(&list.join(","), "")
+        document(&list.join(","), "")
     };
     check(&objects(1_024), accepted(1_024));
     check_at(&objects(1_025), 9, "\"o1024\"");
@@ -466,13 +466,13 @@ fn vertices() {
         "[0,0,null]",
         "[]",
     ] {
-        check_at_last(&town("", wrong), 12, wrong);
+        check_at_last(&document("", wrong), 12, wrong);
     }
-    check(&town("", "[-0,2147483647,-2147483648]"), accepted(0));
-    check_at(&town("", "[0,2147483648,0]"), 13, "2147483648");
-    check_at(&town("", "[0,0,-2147483649]"), 13, "-2147483649");
+    check(&document("", "[-0,2147483647,-2147483648]"), accepted(0));
+    check_at(&document("", "[0,2147483648,0]"), 13, "2147483648");
+    check_at(&document("", "[0,0,-2147483649]"), 13, "-2147483649");
     let long = format!("1{}", "0".repeat(200));
-    check_at(&town("", &format!("[0,0,{long}]")), 13, &long);
+    check_at(&document("", &format!("[0,0,{long}]")), 13, &long);
 }
 
 #[test]
@@ -609,7 +609,7 @@ fn permissions() {
             let parent = r#""p":{"type":"Road","children":["a"]}"#;
             let start = format!(r#""a":{{"type":"{object}","parents":["p"]"#);
             let shape = shape(geometry, "[]");
-            let text = town(&format!(r#"{parent},{start},"geometry":[{shape}]}}"#), "");
+            let text = document(&format!(r#"{parent},{start},"geometry":[{shape}]}}"#), "");
             if permitted(object).contains(&code) {
                 check(&text, accepted(2));
                 let (_, bytes) = lay(text.as_bytes(), 1_000);
@@ -661,7 +661,7 @@ fn codes() {
 #[test]
 fn numbers_on_the_sheet() {
     let transform = r#"{"scale":[0.001,1e22,-15],"translate":[0,-12.50,999999999999999e-22]}"#;
-    let text = town("", "[1,-1,-2147483648]").replace(
+    let text = document("", "[1,-1,-2147483648]").replace(
         r#"{"scale":[1.0,1.0,1.0],"translate":[0.0,0.0,0.0]}"#,
         transform,
     );
@@ -692,7 +692,7 @@ fn alike_texts() {
         assert_eq!(verdict.rule(), 0, "{text}");
         bytes
     };
-    let one = town(
+    let one = document(
         r#""a":{"type":"Road","children":["b"]},"b":{"type":"Road","parents":["a"]}"#,
         "[0,10,-5]",
     );
@@ -704,7 +704,7 @@ fn alike_texts() {
         "version":"2.0","type":"CityJSON"} "#;
     assert_eq!(laid(&one), laid(two));
     // City objects in another order, an array in another order, another ID.
-    let order = town(
+    let order = document(
         r#""b":{"type":"Road","parents":["a"]},"a":{"type":"Road","children":["b"]}"#,
         "[0,10,-5]",
     );
@@ -715,7 +715,7 @@ fn alike_texts() {
 
 #[test]
 fn links() {
-    let two = |a: &str, b: &str| town(&format!(r#""a":{{{a}}},"b":{{{b}}}"#), "");
+    let two = |a: &str, b: &str| document(&format!(r#""a":{{{a}}},"b":{{{b}}}"#), "");
     let road = r#""type":"Road""#;
     let check_links = |a: &str, b: &str, expected: Option<(u8, &str)>| {
         let text = two(a, b);
@@ -809,8 +809,8 @@ fn links() {
 
 #[test]
 fn absent_and_empty_lists_are_the_same_model() {
-    let absent = town(r#""a":{"type":"Road"}"#, "");
-    let empty = town(
+    let absent = document(r#""a":{"type":"Road"}"#, "");
+    let empty = document(
         r#""a":{"type":"Road","children":[],"parents":[],"geometry":[]}"#,
         "",
     );
@@ -835,7 +835,7 @@ fn builds_that_would_sound_right() {
     let surface = |boundary: &str| {
         let geometry = shape("MultiSurface", boundary);
         let object = format!(r#""a":{{"type":"Road","geometry":[{geometry}]}}"#);
-        let sheet = lay(town(&object, "[0,0,0],[1,0,0],[1,1,0]").as_bytes(), 500).1;
+        let sheet = lay(document(&object, "[0,0,0],[1,0,0],[1,1,0]").as_bytes(), 500).1;
         // After kinds 1 to 5 (66, 42, 9, 6 and 6 bytes) and ten bytes of kind 6.
         sheet[139..167].to_vec()
     };

@@ -48,7 +48,7 @@ const HOUSE: usize = geometry(1 + 1 + surfaces(5, 4) + surfaces(2, 5))
     + semantics(3, 7)
     + record(2 + "+ThermalSurface".len());
 
-const QUARTER: usize = start(39)
+const MARKET: usize = start(39)
     + object("market-quarter", 6, 0)
     + object("town-hall", 2, 0)
     + object("town-hall-tower", 0, 1)
@@ -91,7 +91,7 @@ fn check_laid(name: &str, length: usize, objects: usize) {
 
 #[test]
 fn accepted_examples() {
-    assert_eq!((start(0) + record(0), KIOSK, QUARTER), (78, 133, 1_777));
+    assert_eq!((start(0) + record(0), KIOSK, MARKET), (78, 133, 1_777));
     check_laid("minimal.city.json", 78, 0);
     check_laid("kiosk.city.json", 133, 1);
     check_laid("quarter.city.json", 1_777, 9);

@@ -8,7 +8,7 @@ use std::thread;
 use std::time::Duration;
 
 use kebrawish_tests::compare::shown;
-use kebrawish_tests::samples::{self, town, MINIMAL};
+use kebrawish_tests::samples::{self, document, MINIMAL};
 use kebrawish_tests::TEXT_LIMIT;
 
 fn root() -> PathBuf {
@@ -88,8 +88,8 @@ fn examples() {
 
 #[test]
 fn a_slow_pipe() {
-    let quarter = example("quarter.city.json");
-    assert_eq!(line(&quarter, 7), "laid 1777 bytes, objects 9\n");
+    let market = example("quarter.city.json");
+    assert_eq!(line(&market, 7), "laid 1777 bytes, objects 9\n");
     assert_eq!(line(&padded(TEXT_LIMIT), 97), "laid 78 bytes, objects 0\n");
     assert_eq!(line(&padded(200_000), 97), "refused 1 at 65535\n");
 }
@@ -112,7 +112,7 @@ fn long_texts() {
 #[test]
 fn a_sheet_that_does_not_fit() {
     let vertices = |count: usize| vec!["[0,0,0]"; count].join(",");
-    let print = |count: usize| line(town("", &vertices(count)).as_bytes(), usize::MAX);
+    let print = |count: usize| line(document("", &vertices(count)).as_bytes(), usize::MAX);
     assert_eq!(print(5_454), "laid 65526 bytes, objects 0\n");
     assert_eq!(print(5_455), "refused 18 at 0\n");
 }

@@ -2,7 +2,7 @@
 //! the library.
 
 use kebrawish_tests::published::{json_suite, utf8_lines, OPEN_FILES};
-use kebrawish_tests::samples::{town, MINIMAL};
+use kebrawish_tests::samples::{document, MINIMAL};
 use kebrawish_tests::{compare, Verdict};
 
 /// The files of the suite, each as a text, as an unexamined member and as a city object.
@@ -19,7 +19,7 @@ fn the_json_suite() {
         let start = br#"{"metadata":"#.as_slice();
         let rest = MINIMAL.replacen('{', ",", 1).into_bytes();
         compare::all(&[start, value, &rest].concat(), name);
-        let around = town("\"a\":#", "");
+        let around = document("\"a\":#", "");
         let (start, rest) = around.split_once('#').unwrap();
         let text = [start.as_bytes(), value, rest.as_bytes()].concat();
         compare::all(&text, name);
@@ -81,7 +81,7 @@ fn the_utf8_test() {
         }
         let string = in_quotes(line);
         compare::all(&string, &what);
-        let around = town("#:{\"type\":\"Road\"}", "");
+        let around = document("#:{\"type\":\"Road\"}", "");
         let (start, rest) = around.split_once('#').unwrap();
         let text = [start.as_bytes(), &string, rest.as_bytes()].concat();
         let verdict = compare::all(&text, &what).judge;

@@ -1,4 +1,4 @@
--- How many elements of an array a loop has passed. Assumes nothing.
+-- How many elements of an array a loop has passed.
 use Prim.Native.Nat.{ℕ, _+_, _-_, _*_, _^_, _≤_, _<_}
 use native.Mathlib.Omega.{arith}
 use mathlib.Core.Path.{_≡_, sym, _∙_}

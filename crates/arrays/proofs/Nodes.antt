@@ -1,4 +1,4 @@
--- Numbers and arrays at a node, from what the code's tests and callees say. Assumes nothing.
+-- Numbers and arrays at a node, from what the code's tests and callees say.
 use Prim.Native.Nat.{ℕ, zero, suc, _+_, _-_, _≤_}
 use native.Mathlib.Omega.{arith}
 use mathlib.Core.Path.{_≡_, refl, sym, ap, _∙_}
@@ -27,7 +27,8 @@ use Rattle.shapes.specs.Says.{pairedAs, GivesPair}
 use Rattle.shapes.specs.declared.Paired.{Paired}
 use Rattle.shapes.specs.declared.Paired.the-variants as paired
 use Rattle.shapes.specs.Laws.{integer-number}
-use Rattle.model.specs.Code.{le, signed, each}
+use Rattle.utf8.specs.Bytes.{le}
+use Rattle.model.specs.Code.{signed, concatMap}
 use Rattle.model.specs.Model.{layThree, layDecimal, layNest, layValue, layValues}
 use Rattle.model.specs.Read.{natural, decimalOf, integerOf, indexOf, valueOf, threeOf, nestOf}
 use Rattle.model.specs.Weigh.{decimal-fits}
@@ -49,11 +50,11 @@ unfolding Leaves
 leaves-suc P zero h v l = absurd (h refl)
 leaves-suc P (suc d) h v l = let e : suc d - 1 ≡ d = omega arith in rw e l
 
-nest-suc : (depth : ℕ) → (depth ≡ 0 → ⊥) → (v : Json) → le 4 (length (elements v)) ++ each (λ w. layNest (depth - 1) (nestOf indexOf (depth - 1) w)) (elements v) ≡ layNest depth (nestOf indexOf depth v)
+nest-suc : (depth : ℕ) → (depth ≡ 0 → ⊥) → (v : Json) → le 4 (length (elements v)) ++ concatMap (λ w. layNest (depth - 1) (nestOf indexOf (depth - 1) w)) (elements v) ≡ layNest depth (nestOf indexOf depth v)
 nest-suc zero h v = absurd (h refl)
 nest-suc (suc d) h v = let e : suc d - 1 ≡ d = omega arith in rw e (sym (nest-parts d v))
 
-values-suc : (depth : ℕ) → (depth ≡ 0 → ⊥) → (v : Json) → each (λ w. layValues (depth - 1) (nestOf valueOf (depth - 1) w)) (elements v) ≡ layValues depth (nestOf valueOf depth v)
+values-suc : (depth : ℕ) → (depth ≡ 0 → ⊥) → (v : Json) → concatMap (λ w. layValues (depth - 1) (nestOf valueOf (depth - 1) w)) (elements v) ≡ layValues depth (nestOf valueOf depth v)
 values-suc zero h v = absurd (h refl)
 values-suc (suc d) h v = let e : suc d - 1 ≡ d = omega arith in rw e (sym (values-parts d v))
 
@@ -146,7 +147,7 @@ module _ {x t : List ℕ} {i : ℕ} where
   unfolding Triple
   triple-elements P h = holds-as (λ v p. p .1) h
 
-  pub triple-wrote : {A : Type 0} (P : Json → Type 0) {d₀ d : List ℕ} {to r : ℕ} (enc : A → List ℕ) (read : Json → A) → Holds (Triple P) x t i → Wrote (λ v. each (λ w. enc (read w)) (elements v)) x t i d₀ d to r → Wrote (λ v. layThree enc (threeOf read v)) x t i d₀ d to r
+  pub triple-wrote : {A : Type 0} (P : Json → Type 0) {d₀ d : List ℕ} {to r : ℕ} (enc : A → List ℕ) (read : Json → A) → Holds (Triple P) x t i → Wrote (λ v. concatMap (λ w. enc (read w)) (elements v)) x t i d₀ d to r → Wrote (λ v. layThree enc (threeOf read v)) x t i d₀ d to r
   unfolding Triple
   triple-wrote P enc read h w = wrote-as (λ v s. three-each enc read v (h .holds v s .0)) w
 
@@ -181,14 +182,14 @@ module _ {x t : List ℕ} {i : ℕ} where
     values-leaf e w = rw e w
 
   pub nest-none : (depth : ℕ) {b : Bool} {d₀ d : List ℕ} {to r : ℕ} → (depth ≡ 0 → ⊥) → Gives isArrayValue x t i b → not b ≡ true → Writes (le 4 0) d₀ d to r → Wrote (λ v. layNest depth (nestOf indexOf depth v)) x t i d₀ d to r
-  unfolding each
+  unfolding concatMap
   nest-none depth {b} h g e w =
       wrote-as (λ v s. nest-suc depth h v) (record { is = λ v s. let z : elements v ≡ [] = no-elements v (sym (g .is v s) ∙ not-true b e) in rw (z, append-nil (le 4 0)) w })
 
-  pub nest-array : (depth : ℕ) {n body q : ℕ} {d₀ d₁ d₂ : List ℕ} {to r : ℕ} → (depth ≡ 0 → ⊥) → Gives (λ v. length (elements v)) x t i n → Skips 4 to body → Wrote (λ v. each (λ w. layNest (depth - 1) (nestOf indexOf (depth - 1) w)) (elements v)) x t i d₀ d₁ body r
+  pub nest-array : (depth : ℕ) {n body q : ℕ} {d₀ d₁ d₂ : List ℕ} {to r : ℕ} → (depth ≡ 0 → ⊥) → Gives (λ v. length (elements v)) x t i n → Skips 4 to body → Wrote (λ v. concatMap (λ w. layNest (depth - 1) (nestOf indexOf (depth - 1) w)) (elements v)) x t i d₀ d₁ body r
       → Writes (le 4 n) d₁ d₂ to q → Wrote (λ v. layNest depth (nestOf indexOf depth v)) x t i d₀ d₂ to r
   nest-array depth h g k w u =
-      wrote-as (λ v s. nest-suc depth h v) (record { is = λ v s. as-bytes (ap (λ n. le 4 n ++ each (λ w. layNest (depth - 1) (nestOf indexOf (depth - 1) w)) (elements v)) (g .is v s)) (numbered _ k (w .is v s) u) })
+      wrote-as (λ v s. nest-suc depth h v) (record { is = λ v s. as-bytes (ap (λ n. le 4 n ++ concatMap (λ w. layNest (depth - 1) (nestOf indexOf (depth - 1) w)) (elements v)) (g .is v s)) (numbered _ k (w .is v s) u) })
 
-  pub values-array : (depth : ℕ) {d₀ d : List ℕ} {to r : ℕ} → (depth ≡ 0 → ⊥) → Wrote (λ v. each (λ w. layValues (depth - 1) (nestOf valueOf (depth - 1) w)) (elements v)) x t i d₀ d to r → Wrote (λ v. layValues depth (nestOf valueOf depth v)) x t i d₀ d to r
+  pub values-array : (depth : ℕ) {d₀ d : List ℕ} {to r : ℕ} → (depth ≡ 0 → ⊥) → Wrote (λ v. concatMap (λ w. layValues (depth - 1) (nestOf valueOf (depth - 1) w)) (elements v)) x t i d₀ d to r → Wrote (λ v. layValues depth (nestOf valueOf depth v)) x t i d₀ d to r
   values-array depth h w = wrote-as (λ v s. values-suc depth h v) w

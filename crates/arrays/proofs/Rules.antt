@@ -1,4 +1,4 @@
--- What `search` is handed to close what the functions leave. Assumes nothing.
+-- What `search` is handed to close what the functions leave.
 use borrow.Author.Needs.{needs}
 use Rattle.nodes.specs.Walks.{node-first, node-second, node-room, node-onward}
 use Rattle.arrays.specs.Laws.{laying-start, laying-item, laying-room, laying-less, laying-turn}

@@ -1,4 +1,4 @@
--- What the writers ask of the numbers of a text; those of an accepted text are so (rules 12 and 13). Assumes nothing: these are definitions.
+-- What the writers ask of the numbers of a text; those of an accepted text are so (rules 12 and 13).
 use mathlib.Core.Path.{_≡_}
 use mathlib.Core.Bool.{true, false}
 use Prim.Native.Nat.{ℕ, zero, suc, _^_}
@@ -6,13 +6,14 @@ use lib.ListN.{length}
 use Rattle.numerals.specs.Numerals.{pairOf, integer, fits32, isBelow}
 use Rattle.json.specs.Tree.{Json}
 use Rattle.nodes.specs.Access.{isNullValue, isNumberValue, elements, numeralOf}
-use Rattle.shapes.specs.Shapes.{isPair, isIntegerValue}
+use Rattle.shapes.specs.Checks.{isSome}
+use Rattle.shapes.specs.Shapes.{isIntegerValue}
 use Rattle.model.specs.Code.{All}
 
 -- a number that is a pair in range
 unfoldable pub Pair : Json → Type 0
-unfolding isNumberValue isPair pairOf numeralOf
-Pair v = (isNumberValue v ≡ true) × (isPair (pairOf (numeralOf v)) ≡ true)
+unfolding isNumberValue isSome pairOf numeralOf
+Pair v = (isNumberValue v ≡ true) × (isSome (pairOf (numeralOf v)) ≡ true)
 
 -- an integer of 32 signed bits
 unfoldable pub Coordinate : Json → Type 0

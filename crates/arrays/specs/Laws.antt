@@ -1,4 +1,4 @@
--- Laws of writers over a node table: one after the other, and a loop over the elements of an array. Assumes nothing.
+-- Laws of writers over a node table: one after the other, and a loop over the elements of an array.
 use Prim.Native.Nat.{ℕ, _+_, _-_, _≤_, _<_}
 use native.Mathlib.Omega.{arith}
 use mathlib.Core.Path.{_≡_, refl, sym, ap, _∙_, subst}
@@ -16,7 +16,7 @@ use Rattle.nodes.specs.Says.{Node, Finds, Gives}
 use Rattle.nodes.specs.Laws.{elements-begin, no-elements}
 use Rattle.nodes.specs.declared.Found.{Found}
 use Rattle.nodes.specs.declared.Found.the-variants.{At, Nothing}
-use Rattle.model.specs.Code.{each, All}
+use Rattle.model.specs.Code.{concatMap, All}
 use Rattle.writer.specs.Writes.{Writes}
 use Rattle.writer.specs.Laws.{nothing, then}
 use Rattle.arrays.specs.Fits.{Elements}
@@ -58,7 +58,7 @@ wrote-then u w = record { is = λ v s. then (u .is v s) (w .is v s) }
 -- Of all bytes, those of `us` are still to come; each of `us` is as P asks.
 pub record Rest (P : Json → Type 0) (f : Json → List ℕ) (all : List ℕ) (d₀ d : List ℕ) (to at : ℕ) (us : List Json) : Type 0 where
   pub done : List ℕ
-  pub all-is : all ≡ done ++ each f us
+  pub all-is : all ≡ done ++ concatMap f us
   pub wrote : Writes done d₀ d to at
   pub good : All P us
 
@@ -66,12 +66,12 @@ pub record Rest (P : Json → Type 0) (f : Json → List ℕ) (all : List ℕ) (
 pub record Laying (P : Json → Type 0) (f : Json → List ℕ) (x t : List ℕ) (i n k : ℕ) (d₀ d : List ℕ) (to at : ℕ) : Type 0 where
   pub node : Node x t i
   pub room : length d ≡ length d₀
-  pub left : (v : Json) → Sub x t i v → Left x t k n (λ us. Rest P f (each f (elements v)) d₀ d to at (listed us))
+  pub left : (v : Json) → Sub x t i v → Left x t k n (λ us. Rest P f (concatMap f (elements v)) d₀ d to at (listed us))
 
 -- where there is no array
-pub laying-none : (f : Json → List ℕ) {x t : List ℕ} {i : ℕ} {b : Bool} {d : List ℕ} {to : ℕ} → Gives isArrayValue x t i b → not b ≡ true → Wrote (λ v. each f (elements v)) x t i d d to to
-unfolding each
-laying-none f {b = b} g e = wrote-nothing (λ v s. ap (each f) (no-elements v (sym (g .is v s) ∙ not-true b e)))
+pub laying-none : (f : Json → List ℕ) {x t : List ℕ} {i : ℕ} {b : Bool} {d : List ℕ} {to : ℕ} → Gives isArrayValue x t i b → not b ≡ true → Wrote (λ v. concatMap f (elements v)) x t i d d to to
+unfolding concatMap
+laying-none f {b = b} g e = wrote-nothing (λ v s. ap (concatMap f) (no-elements v (sym (g .is v s) ∙ not-true b e)))
 
 module _ {P : Json → Type 0} {f : Json → List ℕ} {x t : List ℕ} {i : ℕ} where
   pub laying-start : {b : Bool} {n : ℕ} {d : List ℕ} {to : ℕ} → Holds (Elements P) x t i → Gives isArrayValue x t i b → not b ≡ false → n ≡ getD t (i + 2) 0 → Laying P f x t i n (i + 3) d d to to
@@ -79,11 +79,11 @@ module _ {P : Json → Type 0} {f : Json → List ℕ} {x t : List ℕ} {i : ℕ
   laying-start {b} {n} {d} {to} h g e q = record {
     node = h .node;
     room = refl;
-    left = λ v s. rw q (elements-begin (Rest P f (each f (elements v)) d d to to) s (sym (g .is v s) ∙ not-false b e) (record { done = []; all-is = refl; wrote = nothing d to; good = h .holds v s }));
+    left = λ v s. rw q (elements-begin (Rest P f (concatMap f (elements v)) d d to to) s (sym (g .is v s) ∙ not-false b e) (record { done = []; all-is = refl; wrote = nothing d to; good = h .holds v s }));
   }
 
   module _ {n k : ℕ} {d₀ d : List ℕ} {to at : ℕ} (p : Laying P f x t i n k d₀ d to at) where
-    here : k < n → Past x t k n (λ us. Rest P f (each f (elements (p .node .value))) d₀ d to at (listed us))
+    here : k < n → Past x t k n (λ us. Rest P f (concatMap f (elements (p .node .value))) d₀ d to at (listed us))
     here l = past (p .left (p .node .value) (p .node .stands)) l
 
     -- the element at k
@@ -98,18 +98,18 @@ module _ {P : Json → Type 0} {f : Json → List ℕ} {x t : List ℕ} {i : ℕ
     laying-less l q = let u = here l in omega (arith, u .more, u .within)
 
     pub laying-turn : {m : ℕ} {d′ : List ℕ} {r : ℕ} → k < n → Wrote f x t k d d′ at r → m ≡ getD t (k + 2) 0 → Laying P f x t i n m d₀ d′ to r
-    unfolding listed each
+    unfolding listed concatMap
     laying-turn {m} {d′} {r} l w q = record {
       node = p .node;
       room = (let u = here l in w .is (u .value) (u .stands) .room) ∙ p .room;
       left = λ v s.
           let u = past (p .left v s) l in
           let h = u .holds in
-          rw q (over u (record { done = h .done ++ f (u .value); all-is = h .all-is ∙ sym (append-assoc (h .done) (f (u .value)) (each f (listed (u .others)))); wrote = then (h .wrote) (w .is (u .value) (u .stands)); good = h .good .1 }));
+          rw q (over u (record { done = h .done ++ f (u .value); all-is = h .all-is ∙ sym (append-assoc (h .done) (f (u .value)) (concatMap f (listed (u .others)))); wrote = then (h .wrote) (w .is (u .value) (u .stands)); good = h .good .1 }));
     }
 
-    pub laying-done : n ≤ k → Wrote (λ v. each f (elements v)) x t i d₀ d to at
-    unfolding listed each
+    pub laying-done : n ≤ k → Wrote (λ v. concatMap f (elements v)) x t i d₀ d to at
+    unfolding listed concatMap
     laying-done h = record { is = λ v s. let e = ended (p .left v s) h in rw (e .all-is, append-nil (e .done)) (e .wrote) }
 
 -- ---- what was found

@@ -1,4 +1,4 @@
--- The bytes of numbers and of nested arrays, level by level. Assumes nothing.
+-- The bytes of numbers and of nested arrays, level by level.
 use Prim.Native.Nat.{ℕ, zero, suc, _+_, _-_, _^_, _<_}
 use native.Mathlib.Omega.{arith}
 use mathlib.Core.Path.{_≡_, refl, sym, ap, _∙_}
@@ -9,33 +9,34 @@ use mathlib.Core.Option as option
 use lib.ListN.{length, getD, length-map}
 use lib.IntN.{ℤ, pos, negsuc}
 use borrow.Author.Tests.{ltb-true}
+use Rattle.shapes.specs.Checks.{isSome}
 use Rattle.utf8.specs.Laws.{never}
 use Rattle.numerals.specs.Numerals.{decimal, inRange, pairOf, integer, fits32, isBelow, digits, natural, negative}
 use Rattle.numerals.specs.Numerals as numerals
 use Rattle.numerals.specs.Reading.{saturated}
 use Rattle.json.specs.Tree.{Json, null, bool, num, str, arr, obj}
 use Rattle.nodes.specs.Access.{isNullValue, isNumberValue, elements, numeralOf}
-use Rattle.shapes.specs.Shapes.{isPair}
-use Rattle.model.specs.Code.{le, signed, each, Holds}
+use Rattle.utf8.specs.Bytes.{le}
+use Rattle.model.specs.Code.{signed, concatMap, Holds}
 use Rattle.model.specs.Good.{GoodDecimal}
 use Rattle.model.specs.Model.{layThree, layNest, layValues}
-use Rattle.model.specs.Read.{numberOf, zeroIfNone, decimalOf, integerOf, indexOf, valueOf, threeOf, nestOf}
+use Rattle.model.specs.Read.{maybeDecimal, zeroIfNone, decimalOf, integerOf, indexOf, valueOf, threeOf, nestOf}
 use Rattle.model.specs.Read as read
 use Rattle.sheets.specs.Numbers.{integer-read, pair-good}
 use Rattle.arrays.specs.Fits.{Pair, Coordinate, Index}
 
 -- reading and writing each element is one pass
-pub each-map : {A B : Type 0} (enc : B → List ℕ) (f : A → B) (l : List A) → each enc (map f l) ≡ each (λ a. enc (f a)) l
-unfolding each
+pub each-map : {A B : Type 0} (enc : B → List ℕ) (f : A → B) (l : List A) → concatMap enc (map f l) ≡ concatMap (λ a. enc (f a)) l
+unfolding concatMap
 each-map enc f [] = refl
 each-map enc f (a ∷ l) = ap (λ r. enc (f a) ++ r) (each-map enc f l)
 
 -- three elements are written one after the other
-pub three-each : {A : Type 0} (enc : A → List ℕ) (read : Json → A) (v : Json) → length (elements v) ≡ 3 → each (λ w. enc (read w)) (elements v) ≡ layThree enc (threeOf read v)
-unfolding layThree threeOf each
+pub three-each : {A : Type 0} (enc : A → List ℕ) (read : Json → A) (v : Json) → length (elements v) ≡ 3 → concatMap (λ w. enc (read w)) (elements v) ≡ layThree enc (threeOf read v)
+unfolding layThree threeOf concatMap
 three-each enc read v h = go (elements v) h
   where
-    go : (l : List Json) → length l ≡ 3 → each (λ w. enc (read w)) l ≡ enc (read (getD l 0 (null 0 0))) ++ enc (read (getD l 1 (null 0 0))) ++ enc (read (getD l 2 (null 0 0)))
+    go : (l : List Json) → length l ≡ 3 → concatMap (λ w. enc (read w)) l ≡ enc (read (getD l 0 (null 0 0))) ++ enc (read (getD l 1 (null 0 0))) ++ enc (read (getD l 2 (null 0 0)))
     go [] e = absurd (omega arith)
     go (a ∷ []) e = absurd (omega arith)
     go (a ∷ b ∷ []) e = absurd (omega arith)
@@ -43,12 +44,12 @@ three-each enc read v h = go (elements v) h
     go (a ∷ b ∷ c ∷ d ∷ l) e = absurd (omega arith)
 
 -- an array of a boundary is its count and its elements
-pub nest-parts : (d : ℕ) (v : Json) → layNest (suc d) (nestOf indexOf (suc d) v) ≡ le 4 (length (elements v)) ++ each (λ w. layNest d (nestOf indexOf d w)) (elements v)
+pub nest-parts : (d : ℕ) (v : Json) → layNest (suc d) (nestOf indexOf (suc d) v) ≡ le 4 (length (elements v)) ++ concatMap (λ w. layNest d (nestOf indexOf d w)) (elements v)
 unfolding layNest nestOf
 nest-parts d v = λ i. le 4 (length-map (elements v) (nestOf indexOf d) i) ++ each-map (layNest d) (nestOf indexOf d) (elements v) i
 
 -- an array of values is its elements
-pub values-parts : (d : ℕ) (v : Json) → layValues (suc d) (nestOf valueOf (suc d) v) ≡ each (λ w. layValues d (nestOf valueOf d w)) (elements v)
+pub values-parts : (d : ℕ) (v : Json) → layValues (suc d) (nestOf valueOf (suc d) v) ≡ concatMap (λ w. layValues d (nestOf valueOf d w)) (elements v)
 unfolding layValues nestOf
 values-parts d v = each-map (layValues d) (nestOf valueOf d) (elements v)
 
@@ -56,12 +57,12 @@ values-parts d v = each-map (layValues d) (nestOf valueOf d) (elements v)
 
 -- the pair of a transform number
 pub pair-read : (v : Json) → Pair v → (pairOf (numeralOf v) ≡ some (decimalOf v)) × GoodDecimal (decimalOf v)
-unfolding Pair isNumberValue numeralOf decimalOf numberOf zeroIfNone pairOf
+unfolding Pair isNumberValue numeralOf decimalOf maybeDecimal zeroIfNone pairOf
 pair-read (null p e) h = absurd (never (h .0) refl)
 pair-read (bool p e b) h = absurd (never (h .0) refl)
 pair-read (num p e raw) h = of (inRange (decimal raw)) refl (h .1)
   where
-    of : (b : Bool) → inRange (decimal raw) ≡ b → isPair (cond b (some (decimal raw)) option.none) ≡ true → (cond b (some (decimal raw)) option.none ≡ some (decimal raw)) × GoodDecimal (decimal raw)
+    of : (b : Bool) → inRange (decimal raw) ≡ b → isSome (cond b (some (decimal raw)) option.none) ≡ true → (cond b (some (decimal raw)) option.none ≡ some (decimal raw)) × GoodDecimal (decimal raw)
     of true q g = (refl, pair-good (decimal raw) (rw q g))
     of false q g = absurd (never g refl)
 pair-read (str p e raw) h = absurd (never (h .0) refl)
@@ -99,7 +100,7 @@ coordinate-read v h =
 
 -- a semantic value
 pub value-null : (v : Json) → isNullValue v ≡ true → valueOf v ≡ option.none
-unfolding isNullValue valueOf numberOf
+unfolding isNullValue valueOf maybeDecimal
 value-null (null p e) h = refl
 value-null (bool p e b) h = absurd (never h refl)
 value-null (num p e raw) h = absurd (never h refl)
@@ -108,7 +109,7 @@ value-null (arr p e vs) h = absurd (never h refl)
 value-null (obj p e ms) h = absurd (never h refl)
 
 pub value-index : (v : Json) → isNumberValue v ≡ true → valueOf v ≡ some (indexOf v)
-unfolding isNumberValue valueOf numberOf indexOf integerOf decimalOf zeroIfNone
+unfolding isNumberValue valueOf maybeDecimal indexOf integerOf decimalOf zeroIfNone
 value-index (null p e) h = absurd (never h refl)
 value-index (bool p e b) h = absurd (never h refl)
 value-index (num p e raw) h = refl

@@ -1,4 +1,4 @@
--- What the writers ask and tell of a node. Assumes nothing: these are definitions.
+-- What the writers ask and tell of a node.
 use mathlib.Core.List.{List}
 use mathlib.Core.Option.{Option}
 use Prim.Native.Nat.{ℕ}

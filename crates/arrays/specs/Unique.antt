@@ -1,4 +1,4 @@
--- One value stands at a node of a table: the table tells the tree. Assumes nothing.
+-- One value stands at a node of a table: the table tells the tree.
 use Prim.Native.Nat.{ℕ}
 use native.Mathlib.Omega.{arith}
 use mathlib.Core.Path.{_≡_, refl, sym, ap, _∙_}

@@ -1,7 +1,8 @@
 // Writes the numbers and the nested arrays of an accepted text to a lent sheet, as far as they fit.
 // Each function takes the cursor at which it is to write and gives the one after.
 ghost use Prim.Native.Nat.{ℕ};
-ghost use Rattle.model.specs.Code.{le, signed, each};
+ghost use Rattle.utf8.specs.Bytes.{le};
+ghost use Rattle.model.specs.Code.{signed, concatMap};
 ghost use Rattle.model.specs.Model.{layThree, layDecimal, layNest, layValue, layValues};
 ghost use Rattle.model.specs.Read.{decimalOf, integerOf, indexOf, valueOf, threeOf, nestOf};
 ghost use Rattle.nodes.specs.Access.{elements};
@@ -79,7 +80,7 @@ fn vertex(text: &[u8], table: &[u32], i: usize, sheet: &mut [u8], at: usize) -> 
 // The vertices, one after the other.
 pub fn vertices(text: &[u8], table: &[u32], i: usize, sheet: &mut [u8], at: usize) -> usize
     requires { ⌜ Holds (Elements (Triple Coordinate)) (now text) (now table) i ⌝ }
-    ensures { λ r. ⌜ Wrote (λ v. each (λ w. layThree (signed 4) (threeOf integerOf w)) (elements v)) (now (text .entry)) (now (table .entry)) i (now (sheet .entry)) (now (sheet .exit)) at r ⌝ }
+    ensures { λ r. ⌜ Wrote (λ v. concatMap (λ w. layThree (signed 4) (threeOf integerOf w)) (elements v)) (now (text .entry)) (now (table .entry)) i (now (sheet .entry)) (now (sheet .exit)) at r ⌝ }
 {
     if !nodes::is_array(text, table, i) {
         return at;

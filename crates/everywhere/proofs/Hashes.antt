@@ -1,4 +1,4 @@
--- The number of the bytes that a string stands for, byte by byte. Assumes nothing.
+-- The number of the bytes that a string stands for, byte by byte.
 use Prim.Native.Nat.{ℕ, _+_, _*_, _%_, _≤_, _<_}
 use mathlib.Core.Path.{_≡_, refl, sym, _∙_}
 use mathlib.Core.List.{List, [], _∷_}

@@ -1,4 +1,4 @@
--- Chains of names: following one, and one name more. Assumes nothing.
+-- Chains of names: following one, and one name more.
 use Prim.Native.Nat.{ℕ, _+_, _-_, _/_, _≤_, _<_, min}
 use mathlib.Core.Path.{_≡_, refl, sym, ap, _∙_}
 use mathlib.Core.Bool.{Bool, true, false, cond, not, _||_}

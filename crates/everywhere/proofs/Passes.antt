@@ -1,4 +1,4 @@
--- Passes over all nodes of a table, in the text's order: the faults of a tree are those of its parts, one after the other. Assumes nothing.
+-- Passes over all nodes of a table, in the text's order: the faults of a tree are those of its parts, one after the other.
 use Prim.Native.Nat.{ℕ, _+_, _-_, _*_, _≤_, _<_}
 use mathlib.Core.Path.{_≡_, refl, sym, ap, _∙_}
 use mathlib.Core.Bool.{Bool, true, false, not}
@@ -30,7 +30,7 @@ unfoldable mutual
   parts (tree.obj p e ms) = value (tree.obj p e ms) ∷ partsOf ms
 
   pub partsIn : Items → List Part
-  partsIn tree.none = []
+  partsIn tree.noItems = []
   partsIn (v ▸ vs) = parts v ++ partsIn vs
 
   pub partsOf : Members → List Part
@@ -60,7 +60,7 @@ mutual
   unpaired-parts (tree.obj p e ms) = unpaired-members ms
 
   unpaired-items : (vs : Items) → unpairedIn (stringsIn vs) ≡ flatMap own5 (partsIn vs)
-  unpaired-items tree.none = refl
+  unpaired-items tree.noItems = refl
   unpaired-items (v ▸ vs) = rw (unpaired-++, flat-++, unpaired-parts v, unpaired-items vs)
 
   unpaired-members : (ms : Members) → unpairedIn (stringsOf ms) ≡ flatMap own5 (partsOf ms)
@@ -84,7 +84,7 @@ mutual
   rule6-parts (tree.obj p e ms) = ap (λ (l : List ℕ). repeated [] ms ++ l) (rule6-members ms)
 
   rule6-items : (vs : Items) → rule6In vs ≡ flatMap own6 (partsIn vs)
-  rule6-items tree.none = refl
+  rule6-items tree.noItems = refl
   rule6-items (v ▸ vs) = rw (flat-++, rule6-parts v, rule6-items vs)
 
   rule6-members : (ms : Members) → rule6Of ms ≡ flatMap own6 (partsOf ms)
@@ -104,7 +104,7 @@ mutual
   parts-size (tree.obj p e ms) = omega (arith, members-size ms)
 
   items-size : (vs : Items) → 3 * length (partsIn vs) ≡ sizes vs
-  items-size tree.none = refl
+  items-size tree.noItems = refl
   items-size (v ▸ vs) = omega (arith, length-append (parts v) (partsIn vs), parts-size v, items-size vs)
 
   members-size : (ms : Members) → 3 * length (partsOf ms) ≡ widths ms

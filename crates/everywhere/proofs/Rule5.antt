@@ -1,4 +1,4 @@
--- Rule 5 at one node. Assumes nothing.
+-- Rule 5 at one node.
 use Prim.Native.Nat.{ℕ, _+_, _-_, _≤_, _<_, min}
 use mathlib.Core.Path.{_≡_, refl, sym, ap, _∙_}
 use mathlib.Core.Bool.{true, false}

@@ -1,4 +1,4 @@
--- Rule 6 at one name and at one object. Assumes nothing.
+-- Rule 6 at one name and at one object.
 use Prim.Native.Nat.{ℕ, zero, suc, _+_, _-_, _≤_, _<_, min}
 use mathlib.Core.Path.{_≡_, refl, sym, ap, _∙_}
 use mathlib.Core.Bool.{Bool, true, false, cond, not, _||_, or-false, or-true}

@@ -1,4 +1,4 @@
--- Chains of names, by which rule 6 is judged in an object of many names. Assumes nothing: these are definitions.
+-- Chains of names, by which rule 6 is judged in an object of many names.
 use mathlib.Core.Path.{_≡_}
 use mathlib.Core.Bool.{Bool, cond}
 use mathlib.Core.List.{List, [], _∷_, map}

@@ -1,10 +1,10 @@
--- Rules 5 and 6 of document 01, which hold in every part of a text: all places at which a tree breaks them. Assumes nothing: these are definitions.
+-- Rules 5 and 6 of document 01, which hold in every part of a text: all places at which a tree breaks them.
 use Prim.Native.Nat.{ℕ, _+_}
 use mathlib.Core.Bool.{Bool, false, cond, _||_}
 use mathlib.Core.List.{List, [], _∷_, _++_}
 use Rattle.utf8.specs.Utf8.{same}
 use Rattle.strings.specs.Strings.{decode, unpairedFrom}
-use Rattle.json.specs.Tree.{Json, null, bool, num, str, arr, obj, Items, none, _▸_, Members, empty, member, Name}
+use Rattle.json.specs.Tree.{Json, null, bool, num, str, arr, obj, Items, noItems, _▸_, Members, empty, member, Name}
 
 -- every string and every name of a tree, in the text's order
 unfoldable mutual
@@ -17,7 +17,7 @@ unfoldable mutual
   strings (obj p e ms) = stringsOf ms
 
   pub stringsIn : Items → List Name
-  stringsIn none = []
+  stringsIn noItems = []
   stringsIn (v ▸ vs) = strings v ++ stringsIn vs
 
   pub stringsOf : Members → List Name
@@ -59,7 +59,7 @@ unfoldable mutual
   rule6 (obj p e ms) = repeated [] ms ++ rule6Of ms
 
   pub rule6In : Items → List ℕ
-  rule6In none = []
+  rule6In noItems = []
   rule6In (v ▸ vs) = rule6 v ++ rule6In vs
 
   pub rule6Of : Members → List ℕ

@@ -1,4 +1,4 @@
--- A law of chains. Assumes nothing.
+-- A law of chains.
 use Prim.Native.Nat.{ℕ}
 use mathlib.Core.Path.{_≡_, refl, ap}
 use mathlib.Core.Bool.{Bool, true, false}

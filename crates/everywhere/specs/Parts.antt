@@ -1,4 +1,4 @@
--- What the private functions ask and tell, which look at one node of any kind: a value's or a name's. Assumes nothing: these are definitions.
+-- What the private functions ask and tell, which look at one node of any kind: a value's or a name's.
 use mathlib.Core.Path.{_≡_}
 use mathlib.Core.Bool.{Bool, cond}
 use mathlib.Core.List.{List, [], _∷_, map}

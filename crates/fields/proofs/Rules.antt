@@ -1,4 +1,4 @@
--- What `search` is handed to close what the functions leave. Assumes nothing.
+-- What `search` is handed to close what the functions leave.
 use Prim.Native.Nat.{ℕ, _+_, _-_, _<_}
 use native.Mathlib.Omega.{arith}
 use mathlib.Core.Path.{_≡_, refl}

@@ -1,4 +1,4 @@
--- What the rules look up in objects. Assumes nothing: these are definitions.
+-- What the rules look up in objects.
 use Prim.Native.Nat.{ℕ}
 use mathlib.Core.List.{List, []}
 use mathlib.Core.Option.{Option, none, some}

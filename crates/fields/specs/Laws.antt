@@ -1,4 +1,4 @@
--- Laws of what was found, for code that goes on with it. Assumes nothing.
+-- Laws of what was found, for code that goes on with it.
 use Prim.Native.Nat.{ℕ, _+_, _*_, _-_, _^_, _≤_, _<_}
 use native.Mathlib.Omega.{arith}
 use mathlib.Core.Path.{_≡_, refl, sym, ap, _∙_, subst}

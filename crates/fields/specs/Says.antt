@@ -1,4 +1,4 @@
--- What the functions over what was found ask and tell. Assumes nothing: these are definitions.
+-- What the functions over what was found ask and tell.
 use mathlib.Core.Path.{_≡_}
 use mathlib.Core.Bool.{true}
 use mathlib.Core.List.{List}

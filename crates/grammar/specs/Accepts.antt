@@ -1,4 +1,4 @@
--- The places of a text from which the machine reads it to its end. Assumes nothing.
+-- The places of a text from which the machine reads it to its end.
 use Prim.Native.Nat.{ℕ, _+_, _≤_, _<_}
 use native.Mathlib.Omega.{arith}
 use native.Mathlib.Numerals.{add-one}

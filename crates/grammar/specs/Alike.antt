@@ -1,4 +1,4 @@
--- What a byte does depends on the text only up to that byte, and on the number of levels only where it opens one. Assumes nothing.
+-- What a byte does depends on the text only up to that byte, and on the number of levels only where it opens one.
 use Prim.Native.Nat.{ℕ, zero, suc, _+_, _-_, _≤_, _<_}
 use native.Mathlib.Omega.{arith}
 use mathlib.Core.Path.{_≡_, refl}
@@ -9,7 +9,7 @@ use lib.Seq.{slice}
 use lib.Dec.{eqb, ltb}
 use borrow.Author.Tests.{ltb-true, ltb-false}
 use Rattle.utf8.specs.Ascii.{ascii, isDigit}
-use Rattle.json.specs.Tree.{Json, num, none}
+use Rattle.json.specs.Tree.{Json, num, noItems}
 use Rattle.json.specs.Machine.{Frame, array, object, Role, value, Mode, Step, go, dead, deep, step, wantStep, gotStep, nextStep, nameStep, mantStep, noughtStep, isBlank, isHex, isEscape, closed, hexed, opened}
 use Rattle.json.specs.Machine.Role.{name}
 use Rattle.json.specs.Machine.Mode.{want, first, name0, name1, colon, got, chars, esc, hex, neg, nought, int, dot, frac, mant, exp, sign, exps, lit}
@@ -89,7 +89,7 @@ module _ (l l′ : ℕ) (x y : List ℕ) (n b : ℕ) where
     pub alike : (m : Mode) (ks : List Frame) → Like l l′ (step l x m ks n b) (step l′ y m ks n b)
     unfolding step nameStep
     alike want ks = like-cond (isBlank b) same (like-want x y ks n b)
-    alike (first p) ks = like-cond (isBlank b) same (like-cond (eqb b 93) same (like-want x y (array p none ∷ ks) n b))
+    alike (first p) ks = like-cond (isBlank b) same (like-cond (eqb b 93) same (like-want x y (array p noItems ∷ ks) n b))
     alike (name0 p) ks = same
     alike (name1 p ms) ks = same
     alike (colon p ms k) ks = same
@@ -214,7 +214,7 @@ module _ (l l′ : ℕ) (u : l ≤ l′) (x : List ℕ) where
   pub fits : (m : Mode) (ks : List Frame) (n b : ℕ) → opening m + length ks ≤ l → Fits l l′ (step l′ x m ks n b)
   unfolding step nameStep
   fits want ks n b h = fits-cond (isBlank b) (allowed (omega arith) tt) (fits-want ks n b (omega arith))
-  fits (first p) ks n b h = fits-cond (isBlank b) (allowed (omega arith) tt) (fits-cond (eqb b 93) (allowed (omega arith) tt) (fits-want (array p none ∷ ks) n b (omega arith)))
+  fits (first p) ks n b h = fits-cond (isBlank b) (allowed (omega arith) tt) (fits-cond (eqb b 93) (allowed (omega arith) tt) (fits-want (array p noItems ∷ ks) n b (omega arith)))
   fits (name0 p) ks n b h = fits-cond (isBlank b) (allowed (omega arith) tt) (fits-cond (eqb b 125) (allowed (omega arith) tt) (fits-cond (eqb b 34) (allowed (omega arith) tt) on-dead))
   fits (name1 p ms) ks n b h = fits-cond (isBlank b) (allowed (omega arith) tt) (fits-cond (eqb b 34) (allowed (omega arith) tt) on-dead)
   fits (colon p ms k) ks n b h = fits-cond (isBlank b) (allowed (omega arith) tt) (fits-cond (eqb b 58) (allowed (omega arith) tt) on-dead)

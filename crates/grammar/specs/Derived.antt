@@ -1,4 +1,4 @@
--- Whatever RFC 8259's grammar derives the machine reads, as the same tree. Assumes nothing.
+-- Whatever RFC 8259's grammar derives the machine reads, as the same tree.
 use Prim.Native.Nat.{ℕ, suc, _+_, _≤_, _<_}
 use native.Mathlib.Omega.{arith}
 use native.Mathlib.Nat.{add-assoc}
@@ -127,17 +127,17 @@ module _ {most : ℕ} {x : List ℕ} {t : Json} where
   -- numerals that began at p
   module _ (p : ℕ) (ks : List Frame) where
     power⁺ : {n k e : ℕ} → g.Sign x n k → g.Some x k e → Acc most x t (got (numeral most x p e)) ks e → Acc most x t (exp p) ks n
-    power⁺ {n} g.Sign.none (g.Some.some {b = b} q d w) a = pass q (exp-digit most x ks p n b d) (digits⁺ w d-exps (to-exps a))
+    power⁺ {n} g.Sign.absent (g.Some.some {b = b} q d w) a = pass q (exp-digit most x ks p n b d) (digits⁺ w d-exps (to-exps a))
     power⁺ {n} (g.Sign.plus s) (g.Some.some {b = b} q d w) a = pass s (st.exp-plus most x n 43 refl p ks) (pass q (st.sign-yes most x (n + 1) b d p ks) (digits⁺ w d-exps (to-exps a)))
     power⁺ {n} (g.Sign.minus s) (g.Some.some {b = b} q d w) a = pass s (st.exp-minus most x n 45 refl p ks) (pass q (st.sign-yes most x (n + 1) b d p ks) (digits⁺ w d-exps (to-exps a)))
 
     exponent⁺ : {n e : ℕ} → g.Exp x n e → Acc most x t (got (numeral most x p e)) ks e → Acc most x t (mant p) ks n
-    exponent⁺ g.Exp.none a = to-mant a
+    exponent⁺ g.Exp.absent a = to-mant a
     exponent⁺ {n} (g.Exp.exp {b = b} q (inl i) s d) a = pass q (st.mant-e most x n b i p ks) (power⁺ s d a)
     exponent⁺ {n} (g.Exp.exp {b = b} q (inr i) s d) a = pass q (st.mant-E most x n b i p ks) (power⁺ s d a)
 
     fraction⁺ : {n e : ℕ} → g.Frac x n e → Acc most x t (mant p) ks e → Acc most x t (nought p) ks n
-    fraction⁺ g.Frac.none a = to-nought a
+    fraction⁺ g.Frac.absent a = to-nought a
     fraction⁺ {n} (g.Frac.frac s (g.Some.some {b = b} q d w)) a = pass s (st.nought-dot most x n 46 refl p ks) (pass q (st.dot-yes most x (n + 1) b d p ks) (digits⁺ w d-frac (to-frac a)))
 
     neg-int⁺ : {n e : ℕ} → g.Int x n e → Acc most x t (nought p) ks e → Acc most x t (neg p) ks n
@@ -205,10 +205,10 @@ module _ {most : ℕ} {x : List ℕ} {t : Json} where
       by (inr w) (inr h) ih = pass p (law n b w h ∙ e′) a
 
   -- what may follow an array's bracket
-  first⁺ : {p : ℕ} {ks : List Frame} {n : ℕ} → Acc most x t want (array p tree.none ∷ ks) n → Acc most x t (first p) ks n
+  first⁺ : {p : ℕ} {ks : List Frame} {n : ℕ} → Acc most x t want (array p tree.noItems ∷ ks) n → Acc most x t (first p) ks n
   first⁺ {p} {ks} =
       opens 93 b-want b-first (λ n. refl)
-      (λ n. st.want-no most x n 93 (over-blank 93 (omega arith)) (λ q. omega arith) (λ q. omega arith) (λ q. omega arith) (λ q. omega arith) (λ q. omega arith) (λ q. omega arith) (λ q. omega arith) (λ q. omega arith) (over-digit 93 (omega arith)) (array p tree.none ∷ ks))
+      (λ n. st.want-no most x n 93 (over-blank 93 (omega arith)) (λ q. omega arith) (λ q. omega arith) (λ q. omega arith) (λ q. omega arith) (λ q. omega arith) (λ q. omega arith) (λ q. omega arith) (λ q. omega arith) (over-digit 93 (omega arith)) (array p tree.noItems ∷ ks))
       (λ n b w h. st.first-else most x n b w h p ks) refl refl
 
   -- what may follow an object's brace
@@ -244,7 +244,7 @@ module _ {most : ℕ} {x : List ℕ} {t : Json} where
   one⁺ ih {p} (g.Value.false′ w) ks h a = false⁺ p ks w a
   one⁺ ih {p} (g.Value.null w) ks h a = null⁺ p ks w a
   one⁺ ih {p} (g.Value.empty-array {n = n} q w r) ks h a = pass q (st.open-array most x p 91 refl ks (omega arith)) (ws⁺ w b-first (pass r (st.first-close most x n 93 refl p ks) a))
-  one⁺ ih {p} (g.Value.array {l = l} {vs = vs} q es) ks h a = pass q (st.open-array most x p 91 refl ks (omega arith)) (first⁺ (elements⁺ l ih es p tree.none ks (omega arith) (rw (items-none vs) a)))
+  one⁺ ih {p} (g.Value.array {l = l} {vs = vs} q es) ks h a = pass q (st.open-array most x p 91 refl ks (omega arith)) (first⁺ (elements⁺ l ih es p tree.noItems ks (omega arith) (rw (items-none vs) a)))
   one⁺ ih {p} (g.Value.empty-object {n = n} q w r) ks h a = pass q (st.open-object most x p 123 refl ks (omega arith)) (ws⁺ w b-name0 (pass r (st.name0-close most x n 125 refl p ks) a))
   one⁺ ih {p} (g.Value.object {l = l} {ms = ms} q es) ks h a = pass q (st.open-object most x p 123 refl ks (omega arith)) (name⁺ (members⁺ l ih es p tree.empty ks (omega arith) (rw (members-empty ms) a)))
 

@@ -1,4 +1,4 @@
--- Every mode that the machine comes to can be ended by some bytes, so that a whole text is read. Assumes nothing.
+-- Every mode that the machine comes to can be ended by some bytes, so that a whole text is read.
 use Prim.{Unit}
 use Prim.Native.Nat.{ℕ, zero, suc, _+_}
 use mathlib.Core.Path.{_≡_, refl}

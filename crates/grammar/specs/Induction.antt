@@ -1,4 +1,4 @@
--- Induction on the levels of a value, and from the end of a text. Assumes nothing.
+-- Induction on the levels of a value, and from the end of a text.
 use Prim.{Unit}
 use Prim.Native.Nat.{ℕ, zero, suc, _+_, _≤_, _<_}
 use native.Mathlib.Omega.{arith}

@@ -1,24 +1,24 @@
--- Elements and members that are read one after the other. Assumes nothing.
+-- Elements and members that are read one after the other.
 use mathlib.Core.Path.{_≡_, refl, _∙_, ap}
-use Rattle.json.specs.Tree.{Json, Items, none, _▸_, _◂_, Members, empty, member, with, Name}
+use Rattle.json.specs.Tree.{Json, Items, noItems, _▸_, _◂_, Members, empty, member, with, Name}
 
 -- the elements us, and then each of vs
 abbrev pub _⊕_ : Items → Items → Items
-us ⊕ none = us
+us ⊕ noItems = us
 us ⊕ (v ▸ vs) = (us ◂ v) ⊕ vs
 
 infixl 55 _⊕_
 -- the first element stays first
 items-cons : (u : Json) (us vs : Items) → (u ▸ us) ⊕ vs ≡ u ▸ (us ⊕ vs)
 unfolding _◂_
-items-cons u us none = refl
+items-cons u us noItems = refl
 items-cons u us (v ▸ vs) = items-cons u (us ◂ v) vs
 
 -- after no elements
-pub items-none : (vs : Items) → none ⊕ vs ≡ vs
+pub items-none : (vs : Items) → noItems ⊕ vs ≡ vs
 unfolding _◂_
-items-none none = refl
-items-none (v ▸ vs) = items-cons v none vs ∙ ap (λ (us : Items). v ▸ us) (items-none vs)
+items-none noItems = refl
+items-none (v ▸ vs) = items-cons v noItems vs ∙ ap (λ (us : Items). v ▸ us) (items-none vs)
 
 -- the members ms, and then each of ns
 abbrev pub _⊞_ : Members → Members → Members

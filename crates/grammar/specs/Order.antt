@@ -1,5 +1,5 @@
 -- A tree that lies in order: each value stands between the ends of what holds it, and after what stands before it,
--- and a string or a name has room for its bytes and its quotes. Assumes nothing: these are definitions.
+-- and a string or a name has room for its bytes and its quotes.
 use Prim.Native.Nat.{ℕ, _+_, _≤_, _<_}
 use mathlib.Core.Bool.{Bool}
 use mathlib.Core.List.{List}
@@ -19,7 +19,7 @@ mutual
 
   -- elements stand from a up to b, one after the other
   pub data Row : Items → ℕ → ℕ → Type 0 where
-    end : {a b : ℕ} → a ≤ b → Row tree.none a b
+    end : {a b : ℕ} → a ≤ b → Row tree.noItems a b
     next : {a p e b : ℕ} {v : Json} {vs : Items} → a ≤ p → Spans v p e → Row vs e b → Row (v ▸ vs) a b
 
   -- members stand from a up to b, one after the other, the name of each before its value

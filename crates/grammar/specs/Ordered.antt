@@ -1,4 +1,4 @@
--- The tree of every text lies in order within the text. Assumes nothing.
+-- The tree of every text lies in order within the text.
 use Prim.Native.Nat.{ℕ, _+_, _-_, _≤_, _<_}
 use native.Mathlib.Omega.{arith}
 use mathlib.Core.List.{List}
@@ -59,18 +59,18 @@ module _ {x : List ℕ} where
 
   -- a fraction
   frac-le : {n m : ℕ} → g.Frac x n m → n ≤ m
-  frac-le g.Frac.none = omega arith
+  frac-le g.Frac.absent = omega arith
   frac-le (g.Frac.frac p s) = omega (arith, some-lt s)
 
   -- a sign
   sign-le : {n m : ℕ} → g.Sign x n m → n ≤ m
-  sign-le g.Sign.none = omega arith
+  sign-le g.Sign.absent = omega arith
   sign-le (g.Sign.plus p) = omega arith
   sign-le (g.Sign.minus p) = omega arith
 
   -- an exponent
   exp-le : {n m : ℕ} → g.Exp x n m → n ≤ m
-  exp-le g.Exp.none = omega arith
+  exp-le g.Exp.absent = omega arith
   exp-le (g.Exp.exp p e s d) = omega (arith, sign-le s, some-lt d)
 
   -- a numeral

@@ -1,4 +1,4 @@
--- Whatever the machine reads RFC 8259's grammar derives, with the same tree. Assumes nothing.
+-- Whatever the machine reads RFC 8259's grammar derives, with the same tree.
 use Prim.Native.Nat.{ℕ, zero, suc, _+_, _≤_, _<_}
 use native.Mathlib.Omega.{arith}
 use native.Mathlib.Nat.{add-assoc}
@@ -86,7 +86,7 @@ abbrev Membs : (most : ℕ) (x : List ℕ) (t : Json) (l p : ℕ) (ks : List Fra
 Membs most x t l p ks n = (ms : Members) → Acc most x t (name1 p ms) ks n → Got most x t (λ v e. (ns : Members) × (v ≡ tree.obj p e (ms ⊞ ns)) × g.Members x l n e ns) ks n
 
 -- an array of elements that were read
-array-of : {x : List ℕ} {l n e : ℕ} {v : Json} {vs : Items} → At x n 91 → v ≡ tree.arr n e (tree.none ⊕ vs) → g.Elements x l (n + 1) e vs → g.Value x (suc l) n e v
+array-of : {x : List ℕ} {l n e : ℕ} {v : Json} {vs : Items} → At x n 91 → v ≡ tree.arr n e (tree.noItems ⊕ vs) → g.Elements x l (n + 1) e vs → g.Value x (suc l) n e v
 array-of {vs = vs} o q es = rw (q, items-none vs) (g.Value.array o es)
 
 -- an object of members that were read
@@ -164,7 +164,7 @@ module _ {most : ℕ} {x : List ℕ} {t : Json} where
         on : {c : ℕ} → At x (n + 1) c → (c ≡ 43) ⊎ (c ≡ 43 → ⊥) → (c ≡ 45) ⊎ (c ≡ 45 → ⊥) → Then most x t (g.Exp x n) (λ e. got (numeral most x p e)) ks n
         on {c} r (inl e) _ = turn (exps⁻ (acc-go r (st.exp-plus most x (n + 1) c e p ks) a)) (omega arith) (λ _ z. g.Exp.exp q i (g.Sign.plus (at e r)) z)
         on {c} r (inr _) (inl e) = turn (exps⁻ (acc-go r (st.exp-minus most x (n + 1) c e p ks) a)) (omega arith) (λ _ z. g.Exp.exp q i (g.Sign.minus (at e r)) z)
-        on {c} r (inr d) (inr e) = turn (exps⁻ (acc-like r (st.exp-else most x (n + 1) c d e p ks) a)) (omega arith) (λ _ z. g.Exp.exp q i g.Sign.none z)
+        on {c} r (inr d) (inr e) = turn (exps⁻ (acc-like r (st.exp-else most x (n + 1) c d e p ks) a)) (omega arith) (λ _ z. g.Exp.exp q i g.Sign.absent z)
 
         by : Next most x t (exp p) ks (n + 1) → Then most x t (g.Exp x n) (λ e. got (numeral most x p e)) ks n
         by (ends s z r) = not-whole r
@@ -176,10 +176,10 @@ module _ {most : ℕ} {x : List ℕ} {t : Json} where
         on : {b : ℕ} → At x n b → (b ≡ 101) ⊎ (b ≡ 101 → ⊥) → (b ≡ 69) ⊎ (b ≡ 69 → ⊥) → Then most x t (g.Exp x n) (λ e. got (numeral most x p e)) ks n
         on {b} q (inl e) _ = power⁻ q (inl e) (acc-go q (st.mant-e most x n b e p ks) a)
         on {b} q (inr _) (inl e) = power⁻ q (inr e) (acc-go q (st.mant-E most x n b e p ks) a)
-        on {b} q (inr d) (inr e) = record { end = n; low = omega arith; part = g.Exp.none; acc = acc-like q (st.mant-else most x n b d e p ks) a }
+        on {b} q (inr d) (inr e) = record { end = n; low = omega arith; part = g.Exp.absent; acc = acc-like q (st.mant-else most x n b d e p ks) a }
 
         by : Next most x t (mant p) ks n → Then most x t (g.Exp x n) (λ e. got (numeral most x p e)) ks n
-        by (ends s z r) = record { end = n; low = omega arith; part = g.Exp.none; acc = rw s (done z r) }
+        by (ends s z r) = record { end = n; low = omega arith; part = g.Exp.absent; acc = rw s (done z r) }
         by (more {b} q) = on q (is? b 101) (is? b 69)
 
     fraction⁻ : {n : ℕ} → Acc most x t (nought p) ks n → Then most x t (g.Frac x n) (λ e. mant p) ks n
@@ -187,10 +187,10 @@ module _ {most : ℕ} {x : List ℕ} {t : Json} where
       where
         on : {b : ℕ} → At x n b → (b ≡ 46) ⊎ (b ≡ 46 → ⊥) → Then most x t (g.Frac x n) (λ e. mant p) ks n
         on {b} q (inl e) = turn (frac⁻ (acc-go q (st.nought-dot most x n b e p ks) a)) (omega arith) (λ _ z. g.Frac.frac (at e q) z)
-        on {b} q (inr d) = record { end = n; low = omega arith; part = g.Frac.none; acc = acc-like q (st.nought-else most x n b d p ks) a }
+        on {b} q (inr d) = record { end = n; low = omega arith; part = g.Frac.absent; acc = acc-like q (st.nought-else most x n b d p ks) a }
 
         by : Next most x t (nought p) ks n → Then most x t (g.Frac x n) (λ e. mant p) ks n
-        by (ends s z r) = record { end = n; low = omega arith; part = g.Frac.none; acc = rw s (done z r) }
+        by (ends s z r) = record { end = n; low = omega arith; part = g.Frac.absent; acc = rw s (done z r) }
         by (more {b} q) = on q (is? b 46)
 
     -- a whole part ends at n: the rest of the numeral
@@ -315,7 +315,7 @@ module _ {most : ℕ} {x : List ℕ} {t : Json} where
             what = tree.arr p (k + 1) (us ◂ i .what);
             end = k + 1;
             low = omega (arith, i .low);
-            part = (i .what ▸ tree.none, refl, g.Elements.last w (i .part) w′ (at e r));
+            part = (i .what ▸ tree.noItems, refl, g.Elements.last w (i .part) w′ (at e r));
             acc = acc-go r (st.array-close most x k c (i .what) p us ks e) a′;
           }
           on (inr d) (inr e) = acc-dead r (st.array-no most x k c (i .what) p us ks f d e) a′
@@ -393,9 +393,9 @@ module _ {most : ℕ} {x : List ℕ} {t : Json} where
       by (byte {b = c} {e = k} l₁ w q f a′) = on (is? c 93)
         where
           on : (c ≡ 93) ⊎ (c ≡ 93 → ⊥) → Got most x t (λ v e. g.Value x (suc l) n e v) ks n
-          on (inl e) = record { what = tree.arr n (k + 1) tree.none; end = k + 1; low = omega arith; part = g.Value.empty-array o w (at e q); acc = acc-go q (st.first-close most x k c e n ks) a′ }
+          on (inl e) = record { what = tree.arr n (k + 1) tree.noItems; end = k + 1; low = omega arith; part = g.Value.empty-array o w (at e q); acc = acc-go q (st.first-close most x k c e n ks) a′ }
           on (inr d) =
-              changed (backwards (length x) (Elems most x t l n ks) (elements-at l val n ks h) (n + 1) tree.none (ws⁺ w b-want (acc-like q (st.first-else most x k c f d n ks) a′))) (omega arith)
+              changed (backwards (length x) (Elems most x t l n ks) (elements-at l val n ks h) (n + 1) tree.noItems (ws⁺ w b-want (acc-like q (st.first-else most x k c f d n ks) a′))) (omega arith)
               (λ v e (vs, z, es). array-of o z es)
 
   -- the same of an object

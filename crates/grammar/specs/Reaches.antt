@@ -1,4 +1,4 @@
--- The places of a text that the machine comes to, and where it stops. Assumes nothing.
+-- The places of a text that the machine comes to, and where it stops.
 use Prim.Native.Nat.{ℕ, _+_, _≤_, _<_}
 use native.Mathlib.Omega.{arith}
 use native.Mathlib.Numerals.{add-one}

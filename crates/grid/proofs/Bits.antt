@@ -1,4 +1,4 @@
--- The rule of the bits of a byte, by a test that antt computes at each byte and each bit. Assumes nothing.
+-- The rule of the bits of a byte, by a test that antt computes at each byte and each bit.
 use Prim.Native.Nat.{ℕ, _+_, _^_, _<_}
 use mathlib.Core.Path.{_≡_, refl}
 use mathlib.Core.Bool.{Bool, true, false, _&&_, _||_}
@@ -7,17 +7,17 @@ use lib.ListN.{getD}
 use lib.Dec.{eqb, ltb}
 use borrow.Author.Tests.{ltb-true, eqb-true}
 use Rattle.utf8.specs.Laws.{both-left, both-right}
-use Rattle.utf8.specs.Finite.{each, each-below, agree, agree-equal}
+use Rattle.utf8.specs.Finite.{allFrom, each-below, agree, agree-equal}
 use Rattle.grid.specs.Grid.{bit}
 
 -- is a byte whose bit k is not set a byte with that bit besides if 2 ^ k is added?
 abbrev adds : Bool → ℕ → ℕ → Bool
 adds true w k = true
-adds false w k = ltb (w + 2 ^ k) 256 && each (λ l. agree (bit (w + 2 ^ k) l) (eqb l k || bit w l)) 0 8
+adds false w k = ltb (w + 2 ^ k) 256 && allFrom (λ l. agree (bit (w + 2 ^ k) l) (eqb l k || bit w l)) 0 8
 
 unfoldable tested : Bool
 unfolding bit
-tested = each (λ w. each (λ k. adds (bit w k) w k) 0 8) 0 256
+tested = allFrom (λ w. allFrom (λ k. adds (bit w k) w k) 0 8) 0 256
 
 all-tested : tested ≡ true
 unfolding tested
@@ -26,7 +26,7 @@ all-tested = refl
 module _ (w k : ℕ) (b : w < 256) (h : k < 8) (e : bit w k ≡ false) where
   added : adds false w k ≡ true
   unfolding tested
-  added = rw e at (each-below (λ k. adds (bit w k) w k) 8 k (each-below (λ w. each (λ k. adds (bit w k) w k) 0 8) 256 w all-tested b) h)
+  added = rw e at (each-below (λ k. adds (bit w k) w k) 8 k (each-below (λ w. allFrom (λ k. adds (bit w k) w k) 0 8) 256 w all-tested b) h)
 
   -- a byte with one bit more is a byte
   pub added-fits : w + 2 ^ k < 256

@@ -1,4 +1,4 @@
--- What `search` is handed to close what the functions leave. Assumes nothing.
+-- What `search` is handed to close what the functions leave.
 use borrow.Author.Needs.{needs}
 use Rattle.grid.proofs.Bits.{powers}
 use Rattle.grid.proofs.Sets.{read, puts-held, put-fits, puts-set}

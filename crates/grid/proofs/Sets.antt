@@ -1,4 +1,4 @@
--- What a bit that is read or written tells of the set. Assumes nothing.
+-- What a bit that is read or written tells of the set.
 use Prim.Native.Nat.{ℕ, _+_, _*_, _/_, _%_, _^_, _≤_, _<_}
 use native.Mathlib.Omega.{arith}
 use mathlib.Core.Path.{_≡_, refl, sym, _∙_}

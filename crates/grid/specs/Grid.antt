@@ -1,4 +1,4 @@
--- A set of pairs of numbers, as the bits of a list of bytes: a row of 128 bytes for each first number, and in it a bit for each second one. Assumes nothing: these are definitions.
+-- A set of pairs of numbers, as the bits of a list of bytes: a row of 128 bytes for each first number, and in it a bit for each second one.
 use Prim.Native.Nat.{ℕ, _+_, _*_, _/_, _%_, _^_, _≤_, _<_}
 use mathlib.Core.Path.{_≡_}
 use mathlib.Core.Bool.{Bool, cond, _&&_, _||_}

@@ -1,4 +1,4 @@
--- Laws of the set: it begins empty, and has what was put in and nothing else. Assumes nothing.
+-- Laws of the set: it begins empty, and has what was put in and nothing else.
 use Prim.Native.Nat.{ℕ, _+_, _*_, _/_, _%_, _^_, _≤_, _<_}
 use mathlib.Core.Path.{_≡_, refl, _∙_}
 use mathlib.Core.Bool.{Bool, true, false, _&&_, _||_, or-true, and-false}

@@ -1,4 +1,4 @@
--- Chains of the IDs of city objects: one object more, and following one. Assumes nothing.
+-- Chains of the IDs of city objects: one object more, and following one.
 use Prim.Native.Nat.{ℕ, zero, suc, _+_, _-_, _%_, _≤_, _<_}
 use native.Mathlib.Omega.{arith}
 use native.Mathlib.Numerals.{add-one}
@@ -15,7 +15,7 @@ use Rattle.nodes.specs.Access.{Member, nameOf}
 use Rattle.everywhere.specs.Chains.{chainOf}
 use Rattle.everywhere.specs.Laws.{other-text}
 use Rattle.everywhere.specs.Parts.{textAt}
-use Rattle.model.specs.Model.{numberOf}
+use Rattle.model.specs.Model.{objectNumber}
 use Rattle.ids.specs.Says.{TextNode, Offsets, Objects, namesOf, Numbers, headFrom, ChainsFrom, Chains, Fills, Puts}
 use Rattle.ids.proofs.Rules.{ids, name-text, nobody, object-text}
 
@@ -49,17 +49,17 @@ module _ (us : List (List ℕ)) (k : ℕ) (h : k < length us) where
   unfolding headFrom
   head-cons c = ap (headFrom c k) texts-cons
 
-  number-cons : (w : List ℕ) → numberOf (drop k us) w ≡ cond (same (getD us k []) w) 0 (suc (numberOf (drop (k + 1) us) w))
-  unfolding numberOf
-  number-cons w = ap (λ l. numberOf l w) texts-cons
+  number-cons : (w : List ℕ) → objectNumber (drop k us) w ≡ cond (same (getD us k []) w) 0 (suc (objectNumber (drop (k + 1) us) w))
+  unfolding objectNumber
+  number-cons w = ap (λ l. objectNumber l w) texts-cons
 
 head-none : (c : ℕ) (us : List (List ℕ)) (k : ℕ) → length us ≤ k → headFrom c k (drop k us) ≡ 0
 unfolding headFrom
 head-none c us k h = ap (headFrom c k) (drop-of-length-le us {i = k} h)
 
-number-none : (w : List ℕ) (us : List (List ℕ)) (k : ℕ) → length us ≤ k → numberOf (drop k us) w ≡ 0
-unfolding numberOf
-number-none w us k h = ap (λ l. numberOf l w) (drop-of-length-le us {i = k} h)
+number-none : (w : List ℕ) (us : List (List ℕ)) (k : ℕ) → length us ≤ k → objectNumber (drop k us) w ≡ 0
+unfolding objectNumber
+number-none w us k h = ap (λ l. objectNumber l w) (drop-of-length-le us {i = k} h)
 
 -- ---- building them
 
@@ -146,10 +146,10 @@ record Lead (us : List (List ℕ)) (w : List ℕ) (k e : ℕ) : Type 0 where
   onward : k ≤ at
   inside : at < length us
   goes : chainOf (getD us at []) ≡ chainOf w
-  skips : k + numberOf (drop k us) w ≡ at + numberOf (drop at us) w
+  skips : k + objectNumber (drop k us) w ≡ at + objectNumber (drop at us) w
 
 module _ (us : List (List ℕ)) (w : List ℕ) where
-  past-other : (k : ℕ) → k < length us → (chainOf (getD us k []) ≡ chainOf w → ⊥) → k + numberOf (drop k us) w ≡ k + 1 + numberOf (drop (k + 1) us) w
+  past-other : (k : ℕ) → k < length us → (chainOf (getD us k []) ≡ chainOf w → ⊥) → k + objectNumber (drop k us) w ≡ k + 1 + objectNumber (drop (k + 1) us) w
   past-other k h n = let z : same (getD us k []) w ≡ false = other-text (getD us k []) w (same (getD us k []) w) refl n in omega (arith, rw z at (number-cons us k h w))
 
   lead : (n k e : ℕ) → k + n ≡ length us → e ≡ headFrom (chainOf w) k (drop k us) → (e ≡ 0 → ⊥) → Lead us w k e
@@ -162,11 +162,11 @@ module _ (us : List (List ℕ)) (w : List ℕ) where
           let r = g y in
           record { at = r .at; is = r .is; onward = omega (arith, r .onward); inside = r .inside; goes = r .goes; skips = past-other k (omega arith) (eqb-false _ _ f) ∙ r .skips }
 
-  lead-none : (n k : ℕ) → k + n ≡ length us → headFrom (chainOf w) k (drop k us) ≡ 0 → k + numberOf (drop k us) w ≡ length us
+  lead-none : (n k : ℕ) → k + n ≡ length us → headFrom (chainOf w) k (drop k us) ≡ 0 → k + objectNumber (drop k us) w ≡ length us
   lead-none zero k l q = omega (arith, number-none w us k (omega arith))
   lead-none (suc n) k l q = if (eqb (chainOf (getD us k [])) (chainOf w)) refl (sym (head-cons us k (omega arith) (chainOf w)) ∙ q) (λ y. lead-none n (k + 1) (omega arith) y)
     where
-      if : (b : Bool) → eqb (chainOf (getD us k [])) (chainOf w) ≡ b → cond b (k + 1) (headFrom (chainOf w) (k + 1) (drop (k + 1) us)) ≡ 0 → (headFrom (chainOf w) (k + 1) (drop (k + 1) us) ≡ 0 → k + 1 + numberOf (drop (k + 1) us) w ≡ length us) → k + numberOf (drop k us) w ≡ length us
+      if : (b : Bool) → eqb (chainOf (getD us k [])) (chainOf w) ≡ b → cond b (k + 1) (headFrom (chainOf w) (k + 1) (drop (k + 1) us)) ≡ 0 → (headFrom (chainOf w) (k + 1) (drop (k + 1) us) ≡ 0 → k + 1 + objectNumber (drop (k + 1) us) w ≡ length us) → k + objectNumber (drop k us) w ≡ length us
       if true f y g = absurd (omega (arith, y))
       if false f y g = past-other k (omega arith) (eqb-false _ _ f) ∙ g y
 
@@ -175,7 +175,7 @@ record Trail (us : List (List ℕ)) (w : List ℕ) (e : ℕ) : Type 0 where
   from : ℕ
   within : from ≤ length us
   is : e ≡ headFrom (chainOf w) from (drop from us)
-  skips : from + numberOf (drop from us) w ≡ numberOf us w
+  skips : from + objectNumber (drop from us) w ≡ objectNumber us w
 
 trail-lead : {us : List (List ℕ)} {w : List ℕ} {e : ℕ} (s : Trail us w e) → (e ≡ 0 → ⊥) → Lead us w (s .from) e
 trail-lead {us} {w} {e} s z = lead us w (length us - s .from) (s .from) e (omega (arith, s .within)) (s .is) z
@@ -210,12 +210,12 @@ module _ {x t offsets : List ℕ} {count : ℕ} {heads nexts : List ℕ} {i : �
           rw (← g) (q ∙ s .chains .is ms o .next (e - 1) (omega arith) (omega (arith, r .inside)))
 
       module _ {b : Bool} (h : b ≡ same (textAt x t (getD offsets (e - 1) 0)) (textAt x t i)) where
-        told : (ms : List Member) → Offsets x t ms offsets count → numberOf (namesOf ms) (textAt x t i) ≡ e - 1 + cond b 0 (suc (numberOf (drop (e - 1 + 1) (namesOf ms)) (textAt x t i)))
+        told : (ms : List Member) → Offsets x t ms offsets count → objectNumber (namesOf ms) (textAt x t i) ≡ e - 1 + cond b 0 (suc (objectNumber (drop (e - 1 + 1) (namesOf ms)) (textAt x t i)))
         told ms o =
             let u = s .left ms o in
             let r = trail-lead u z in
             let y : r .at ≡ e - 1 = omega (arith, r .is) in
-            let w : numberOf (namesOf ms) (textAt x t i) ≡ e - 1 + numberOf (drop (e - 1) (namesOf ms)) (textAt x t i) = sym (u .skips) ∙ rw y at (r .skips) in
+            let w : objectNumber (namesOf ms) (textAt x t i) ≡ e - 1 + objectNumber (drop (e - 1) (namesOf ms)) (textAt x t i) = sym (u .skips) ∙ rw y at (r .skips) in
             let n : b ≡ same (getD (namesOf ms) (e - 1) []) (textAt x t i) = rw (name-is o trail-inside) h in
             rw n (w ∙ ap (λ l. e - 1 + l) (number-cons (namesOf ms) (e - 1) (omega (arith, r .inside)) (textAt x t i)))
 
@@ -233,7 +233,7 @@ module _ {x t offsets : List ℕ} {count : ℕ} {heads nexts : List ℕ} {i : �
     trail-done h = record {
       is = λ ms o.
           let u = s .left ms o in
-          let n : u .from + numberOf (drop (u .from) (namesOf ms)) (textAt x t i) ≡ length (namesOf ms) = lead-none (namesOf ms) (textAt x t i) (length (namesOf ms) - u .from) (u .from) (omega (arith, u .within)) (sym (u .is) ∙ h) in
+          let n : u .from + objectNumber (drop (u .from) (namesOf ms)) (textAt x t i) ≡ length (namesOf ms) = lead-none (namesOf ms) (textAt x t i) (length (namesOf ms) - u .from) (u .from) (omega (arith, u .within)) (sym (u .is) ∙ h) in
           sym (names-all o) ∙ (sym n ∙ u .skips);
     }
 

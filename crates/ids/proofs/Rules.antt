@@ -1,4 +1,4 @@
--- Texts and city objects in the node table. Assumes nothing.
+-- Texts and city objects in the node table.
 use Prim.Native.Nat.{ℕ, _+_, _-_, _*_, _^_, _≤_, _<_}
 use native.Mathlib.Omega.{arith}
 use mathlib.Core.Path.{_≡_, sym, ap, _∙_}

@@ -1,4 +1,4 @@
--- What the functions over the IDs of city objects ask and tell. Assumes nothing: these are definitions.
+-- What the functions over the IDs of city objects ask and tell.
 use mathlib.Core.Path.{_≡_}
 use mathlib.Core.Bool.{cond}
 use mathlib.Core.List.{List, [], _∷_, map}
@@ -10,7 +10,7 @@ use Rattle.everywhere.specs.Chains.{chainOf}
 use Rattle.nodes.specs.Laws.{StringAt}
 use Rattle.everywhere.specs.Parts.{textAt}
 use Rattle.fields.specs.Says.{MemberAt}
-use Rattle.model.specs.Model.{numberOf}
+use Rattle.model.specs.Model.{objectNumber}
 
 -- a string or a name stands at the node i
 pub record TextNode (x t : List ℕ) (i : ℕ) : Type 0 where
@@ -40,7 +40,7 @@ namesOf ms = map nameOf ms
 
 -- r is the number of the object whose ID is the text at the node i
 pub record Numbers (x t offsets : List ℕ) (count i r : ℕ) : Type 0 where
-  pub is : (ms : List Member) → Offsets x t ms offsets count → r ≡ numberOf (namesOf ms) (textAt x t i)
+  pub is : (ms : List Member) → Offsets x t ms offsets count → r ≡ objectNumber (namesOf ms) (textAt x t i)
 
 -- one more than the number of the first of the texts us, which are numbered from k on, that goes to the chain c; 0 if none does
 unfoldable pub headFrom : ℕ → ℕ → List (List ℕ) → ℕ

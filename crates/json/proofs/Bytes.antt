@@ -1,4 +1,4 @@
--- The kinds of byte, from what the code's tests say. Assumes nothing.
+-- The kinds of byte, from what the code's tests say.
 use Prim.Native.Nat.{ℕ, _≤_, _<_}
 use mathlib.Core.Path.{_≡_}
 use mathlib.Core.Bool.{true, false}

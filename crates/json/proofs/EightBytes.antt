@@ -1,4 +1,4 @@
--- Eight bytes as one number (`eight`), and the marks of quotes, backslashes and control bytes among them (`marks`). Assumes nothing.
+-- Eight bytes as one number (`eight`), and the marks of quotes, backslashes and control bytes among them (`marks`).
 use mathlib.Core.Path.{_≡_, refl, sym, ap, ap₂, _∙_}
 use mathlib.Core.Bool.{Bool, true, false, _&&_, _||_}
 use mathlib.Core.List.{List}

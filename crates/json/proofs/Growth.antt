@@ -1,4 +1,4 @@
--- Values and containers: what holds for every stack that the levels left allow, and the words that are written. Assumes nothing.
+-- Values and containers: what holds for every stack that the levels left allow, and the words that are written.
 use mathlib.Core.Path.{_≡_, refl, sym, _∙_}
 use mathlib.Core.List.{List, [], _∷_}
 use Prim.Native.Nat.{ℕ, _+_, _-_, _*_, _≤_, _<_}
@@ -231,7 +231,7 @@ module _ {x t₀ : List ℕ} {at levels n i : ℕ} (o : Opened 91 x t₀ at leve
 
   pub array-starts : i < length x → (getD x i 0 ≡ 93 → ⊥) → Elements x t₀ t₀ at levels n i (n + 3)
   unfolding sizes
-  array-starts h c = record { elements = tree.none; level = level-looks (enters o k (first at) tt) want (λ ks. array at tree.none ∷ ks) h (first-else 32 x i _ (k .stop h) c at); stand = nil; ends = add-zero (n + 3) }
+  array-starts h c = record { elements = tree.noItems; level = level-looks (enters o k (first at) tt) want (λ ks. array at tree.noItems ∷ ks) h (first-else 32 x i _ (k .stop h) c at); stand = nil; ends = add-zero (n + 3) }
 
 module _ {x t₀ t₁ : List ℕ} {at levels n i k : ℕ} (g : Elements x t₀ t₁ at levels n i k) where
   pub element-asks : Ready x t₁ i levels 32 k

@@ -1,4 +1,4 @@
--- Nodes that hold no other: what is written, and the values and names that it stands for. Assumes nothing.
+-- Nodes that hold no other: what is written, and the values and names that it stands for.
 use mathlib.Core.Path.{_≡_, refl, _∙_}
 use mathlib.Core.Bool.{Bool, true, false}
 use mathlib.Core.Option.{some}

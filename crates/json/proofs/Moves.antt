@@ -1,4 +1,4 @@
--- The machine's moves on a text at an offset. Assumes nothing.
+-- The machine's moves on a text at an offset.
 use Prim.Native.Nat.{ℕ, _+_, _≤_, _<_}
 use native.Mathlib.Omega.{arith}
 use mathlib.Core.Path.{_≡_, refl, sym, _∙_}

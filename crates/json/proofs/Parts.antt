@@ -1,4 +1,4 @@
--- How a part of a text is put together from parts. Assumes nothing.
+-- How a part of a text is put together from parts.
 use Prim.Native.Nat.{ℕ, zero, suc, _+_, _-_, _/_, _≤_, _<_}
 use native.Mathlib.Nat.{add-zero}
 use native.Mathlib.Omega.{arith}

@@ -1,10 +1,10 @@
--- Sample readings of document 01 that rules 3 and 4 decide, by computation. Assumes nothing.
+-- Sample readings of document 01 that rules 3 and 4 decide, by computation.
 use Prim.Native.Nat.{ℕ}
 use mathlib.Core.Path.{_≡_, refl}
 use mathlib.Core.List.{[]}
 use lib.ListN.{replicate}
 use Rattle.utf8.specs.Ascii.{ascii, isDigit}
-use Rattle.json.specs.Tree.{str, num, arr, obj, none, _▸_, _◂_, empty, member, with}
+use Rattle.json.specs.Tree.{str, num, arr, obj, noItems, _▸_, _◂_, empty, member, with}
 use Rattle.json.specs.Machine.{reads, bad, tooDeep, read, step, wantStep, gotStep, nextStep, nameStep, mantStep, noughtStep, isBlank, isHex, isEscape}
 
 empty-text : read [] ≡ bad 0
@@ -29,6 +29,6 @@ open-33 = refl
 
 -- {"a":[-1.5e3, "\u00e9"]}
 whole : read (ascii "{\"a\":[-1.5e3, \"\\u00e9\"]}")
-    ≡ reads (obj 0 24 (member (record { place = 1; end = 4; raw = ascii "a" }) (arr 5 23 (num 6 12 (ascii "-1.5e3") ▸ str 14 22 (ascii "\\u00e9") ▸ none)) empty))
+    ≡ reads (obj 0 24 (member (record { place = 1; end = 4; raw = ascii "a" }) (arr 5 23 (num 6 12 (ascii "-1.5e3") ▸ str 14 22 (ascii "\\u00e9") ▸ noItems)) empty))
 unfolding read ascii step wantStep gotStep nextStep nameStep mantStep noughtStep isBlank isDigit isHex isEscape _◂_ with
 whole = refl

@@ -1,5 +1,5 @@
 -- RFC 8259's grammar over the bytes of a text x, each rule as a relation between two offsets: `Ws n m` says that white space stands from n up to m.
--- `Value l n m v` says that a value stands there, that it opens at most l levels, and that its tree is v. Assumes nothing: these are definitions.
+-- `Value l n m v` says that a value stands there, that it opens at most l levels, and that its tree is v.
 use Prim.Native.Nat.{ℕ, suc, _+_, _-_, _≤_, _<_}
 use mathlib.Core.Path.{_≡_}
 use mathlib.Core.Bool.{true, false}
@@ -46,18 +46,18 @@ pub data Int (x : List ℕ) : ℕ → ℕ → Type 0 where
 
 -- [ frac ], frac = decimal-point 1*DIGIT
 pub data Frac (x : List ℕ) : ℕ → ℕ → Type 0 where
-  none : {n : ℕ} → Frac x n n
+  absent : {n : ℕ} → Frac x n n
   frac : {n m : ℕ} → At x n 46 → Some x (n + 1) m → Frac x n m
 
 -- [ minus / plus ]
 pub data Sign (x : List ℕ) : ℕ → ℕ → Type 0 where
-  none : {n : ℕ} → Sign x n n
+  absent : {n : ℕ} → Sign x n n
   plus : {n : ℕ} → At x n 43 → Sign x n (n + 1)
   minus : {n : ℕ} → At x n 45 → Sign x n (n + 1)
 
 -- [ exp ], exp = e [ minus / plus ] 1*DIGIT
 pub data Exp (x : List ℕ) : ℕ → ℕ → Type 0 where
-  none : {n : ℕ} → Exp x n n
+  absent : {n : ℕ} → Exp x n n
   exp : {n k m b : ℕ} → At x n b → (b ≡ 101) ⊎ (b ≡ 69) → Sign x (n + 1) k → Some x k m → Exp x n m
 
 -- number = [ minus ] int [ frac ] [ exp ]
@@ -81,14 +81,14 @@ mutual
     true′ : {l p e : ℕ} → Word x (ascii "true") p e → Value x l p e (tree.bool p e true)
     false′ : {l p e : ℕ} → Word x (ascii "false") p e → Value x l p e (tree.bool p e false)
     null : {l p e : ℕ} → Word x (ascii "null") p e → Value x l p e (tree.null p e)
-    empty-array : {l p n : ℕ} → At x p 91 → Ws x (p + 1) n → At x n 93 → Value x (suc l) p (n + 1) (tree.arr p (n + 1) tree.none)
+    empty-array : {l p n : ℕ} → At x p 91 → Ws x (p + 1) n → At x n 93 → Value x (suc l) p (n + 1) (tree.arr p (n + 1) tree.noItems)
     array : {l p e : ℕ} {vs : Items} → At x p 91 → Elements x l (p + 1) e vs → Value x (suc l) p e (tree.arr p e vs)
     empty-object : {l p n : ℕ} → At x p 123 → Ws x (p + 1) n → At x n 125 → Value x (suc l) p (n + 1) (tree.obj p (n + 1) tree.empty)
     object : {l p e : ℕ} {ms : tree.Members} → At x p 123 → Members x l (p + 1) e ms → Value x (suc l) p e (tree.obj p e ms)
 
   -- ws value ws, then a comma and more, or the bracket
   pub data Elements (x : List ℕ) : ℕ → ℕ → ℕ → Items → Type 0 where
-    last : {l n p e k : ℕ} {v : Json} → Ws x n p → Value x l p e v → Ws x e k → At x k 93 → Elements x l n (k + 1) (v ▸ tree.none)
+    last : {l n p e k : ℕ} {v : Json} → Ws x n p → Value x l p e v → Ws x e k → At x k 93 → Elements x l n (k + 1) (v ▸ tree.noItems)
     next : {l n p e k m : ℕ} {v : Json} {vs : Items} → Ws x n p → Value x l p e v → Ws x e k → At x k 44 → Elements x l (k + 1) m vs → Elements x l n m (v ▸ vs)
 
   -- ws string ws : ws value ws, then a comma and more, or the brace

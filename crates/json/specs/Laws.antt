@@ -1,4 +1,4 @@
--- Laws of a node table that stands for a value, for code that reads the table. Assumes nothing.
+-- Laws of a node table that stands for a value, for code that reads the table.
 use mathlib.Core.Path.{_≡_, refl, sym, _∙_}
 use mathlib.Core.Bool.{true, false, cond, _||_}
 use mathlib.Core.List.{List}
@@ -74,7 +74,7 @@ size-pos (tree.obj p e ms) = omega arith
 
 pub sizes-◂ : (us : Items) (v : Json) → sizes (us ◂ v) ≡ sizes us + size v
 unfolding sizes _◂_
-sizes-◂ tree.none v = omega arith
+sizes-◂ tree.noItems v = omega arith
 sizes-◂ (u ▸ us) v = omega (arith, sizes-◂ us v)
 
 pub widths-with : (ms : Members) (k : Name) (v : Json) → widths (with ms k v) ≡ widths ms + (3 + size v)
@@ -258,12 +258,12 @@ pub over : {x t : List ℕ} {k n : ℕ} {P Q : Items → Type 0} (u : Past x t k
 over u q = record { items = u .others; stand = u .then; ends = u .ends; holds = q }
 
 -- none are left where the loop ends
-pub ended : {x t : List ℕ} {k n : ℕ} {P : Items → Type 0} → Left x t k n P → n ≤ k → P tree.none
+pub ended : {x t : List ℕ} {k n : ℕ} {P : Items → Type 0} → Left x t k n P → n ≤ k → P tree.noItems
 unfolding sizes
 ended {x} {t} {k} {n} {P} l h = go (l .items) (l .ends) (l .holds)
   where
-    go : (vs : Items) → k + sizes vs ≡ n → P vs → P tree.none
-    go tree.none e p = p
+    go : (vs : Items) → k + sizes vs ≡ n → P vs → P tree.noItems
+    go tree.noItems e p = p
     go (v ▸ vs) e p = absurd (omega (arith, size-pos v))
 
 -- where the loop begins

@@ -1,6 +1,6 @@
 -- JSON texts (RFC 8259) read one byte at a time, by a machine with a stack of the containers that are open.
 -- It stops at the first byte that no JSON text has there (document 01, rule 3) and at the byte that opens a level too many (rule 4).
--- Assumes nothing: these are definitions.
+--
 use Prim.Native.Nat.{ℕ, zero, suc, _+_, _-_}
 use mathlib.Core.Bool.{Bool, true, false, cond, _||_, _&&_}
 use mathlib.Core.Option.{Option, some}
@@ -10,7 +10,7 @@ use lib.ListN.{length}
 use lib.Seq.{slice}
 use lib.Dec.{eqb, leb, ltb}
 use Rattle.utf8.specs.Ascii.{ascii, isDigit}
-use Rattle.json.specs.Tree.{Json, null, bool, num, str, arr, obj, Items, none, _◂_, Members, empty, with, Name}
+use Rattle.json.specs.Tree.{Json, null, bool, num, str, arr, obj, Items, noItems, _◂_, Members, empty, with, Name}
 
 -- the kinds of byte: white space; a hexadecimal digit; what may follow the backslash of an escape of two bytes
 unfoldable pub isBlank : ℕ → Bool
@@ -138,7 +138,7 @@ module _ (most : ℕ) (text : List ℕ) where
   step want ks n b = cond (isBlank b) (go want ks) (wantStep ks n b)
   step (first p) ks n b =
       cond (isBlank b) (go (first p) ks)
-      (cond (eqb b 93) (go (got (arr p (n + 1) none)) ks) (wantStep (array p none ∷ ks) n b))
+      (cond (eqb b 93) (go (got (arr p (n + 1) noItems)) ks) (wantStep (array p noItems ∷ ks) n b))
   step (name0 p) ks n b =
       cond (isBlank b) (go (name0 p) ks)
       (cond (eqb b 125) (go (got (obj p (n + 1) empty)) ks) (nameStep p empty ks n b))

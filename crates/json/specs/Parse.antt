@@ -1,4 +1,4 @@
--- What `parse` tells of a text and of the node table that it writes. Assumes nothing: these are definitions, and the theorem that they settle the answer.
+-- What `parse` tells of a text and of the node table that it writes. Definitions, and the theorem that they settle the answer.
 use mathlib.Core.Path.{_≡_}
 use mathlib.Core.Bool.{cond}
 use mathlib.Core.List.{List}
@@ -34,13 +34,13 @@ Tells x t₀ t parsed.Long = (65535 < length x) × (t ≡ t₀)
 Tells x t₀ t parsed.Short = (length x ≤ 65535) × (2 * length t₀ < 3 * length x + 99) × (t ≡ t₀)
 
 -- the answer for the text x and a table t₀
-abbrev pub told : Outcome → Parsed
-told (reads v) = parsed.Nodes (size v)
-told (bad q) = parsed.Bad q
-told (tooDeep q) = parsed.Deep q
+abbrev pub parsedAs : Outcome → Parsed
+parsedAs (reads v) = parsed.Nodes (size v)
+parsedAs (bad q) = parsed.Bad q
+parsedAs (tooDeep q) = parsed.Deep q
 
 unfoldable pub answer : List ℕ → List ℕ → Parsed
-answer x t₀ = cond (ltb 65535 (length x)) parsed.Long (cond (ltb (2 * length t₀) (3 * length x + 99)) parsed.Short (told (read x)))
+answer x t₀ = cond (ltb 65535 (length x)) parsed.Long (cond (ltb (2 * length t₀) (3 * length x + 99)) parsed.Short (parsedAs (read x)))
 
 -- what is told settles the answer
 pub settled : (x t₀ t : List ℕ) (r : Parsed) → Tells x t₀ t r → r ≡ answer x t₀

@@ -1,4 +1,4 @@
--- What the parts of the parser say of the machine and of the table. Assumes nothing: these are definitions.
+-- What the parts of the parser say of the machine and of the table.
 use Prim.Native.Nat.{ℕ, zero, suc, _+_, _*_, _/_, _%_, _^_, _≤_, _<_}
 use mathlib.Core.Path.{_≡_}
 use mathlib.Core.Bool.{Bool, true, false}

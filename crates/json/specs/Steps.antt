@@ -1,4 +1,4 @@
--- What a byte does in each mode. Assumes nothing.
+-- What a byte does in each mode.
 use Prim.Native.Nat.{ℕ, _+_, _≤_, _<_}
 use mathlib.Core.Path.{_≡_, sym}
 use mathlib.Core.Bool.{Bool, true, false}
@@ -9,7 +9,7 @@ use lib.ListN.{length}
 use native.Mathlib.Omega.{arith}
 use borrow.Author.Tests.{eq-eqb, ne-eqb, lt-ltb, le-ltb}
 use Rattle.utf8.specs.Ascii.{ascii, isDigit}
-use Rattle.json.specs.Tree.{Json, arr, obj, Items, none, _◂_, Members, empty, with, Name}
+use Rattle.json.specs.Tree.{Json, arr, obj, Items, noItems, _◂_, Members, empty, with, Name}
 use Rattle.json.specs.Machine.{Frame, array, object, Role, value, go, dead, deep, step, wantStep, gotStep, nextStep, nameStep, mantStep, noughtStep, isBlank, isHex, isEscape, hexed, closed, numeral, literal}
 use Rattle.json.specs.Machine.Role.{name}
 use Rattle.json.specs.Machine.Mode.{want, first, name0, name1, colon, got, chars, esc, hex, neg, nought, int, dot, frac, mant, exp, sign, exps, lit}
@@ -190,11 +190,11 @@ module _ (most : ℕ) (text : List ℕ) (n b : ℕ) where
   unfolding step wantStep isBlank
   deep-object e ks h = rw (e, le-ltb (length ks) most h)
 
-  pub first-close : b ≡ 93 → (p : ℕ) (ks : List Frame) → step most text (first p) ks n b ≡ go (got (arr p (n + 1) none)) ks
+  pub first-close : b ≡ 93 → (p : ℕ) (ks : List Frame) → step most text (first p) ks n b ≡ go (got (arr p (n + 1) noItems)) ks
   unfolding step isBlank
   first-close e p ks = rw e
 
-  pub first-else : false ≡ isBlank b → (b ≡ 93 → ⊥) → (p : ℕ) (ks : List Frame) → step most text (first p) ks n b ≡ step most text want (array p none ∷ ks) n b
+  pub first-else : false ≡ isBlank b → (b ≡ 93 → ⊥) → (p : ℕ) (ks : List Frame) → step most text (first p) ks n b ≡ step most text want (array p noItems ∷ ks) n b
   unfolding step
   first-else w h p ks = rw (sym w, ne-eqb b 93 h)
 

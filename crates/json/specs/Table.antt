@@ -1,6 +1,6 @@
 -- The node table of a tree: three words for each value and each name, in the order in which they start in the text: where it starts,
 -- where it ends (one past its last byte), and the index of the first word past it and all that it holds. A name is followed by its value.
--- Assumes nothing: these are definitions.
+--
 use mathlib.Core.Path.{_≡_}
 use mathlib.Core.Bool.{Bool, true, false, _||_}
 use mathlib.Core.List.{List}
@@ -23,7 +23,7 @@ unfoldable mutual
   size (tree.obj p e ms) = 3 + widths ms
 
   pub sizes : Items → ℕ
-  sizes tree.none = 0
+  sizes tree.noItems = 0
   sizes (v ▸ vs) = size v + sizes vs
 
   pub widths : Members → ℕ
@@ -66,7 +66,7 @@ mutual
     obj : {i p e : ℕ} {ms : Members} → Words x t i p e 123 (i + (3 + widths ms)) → Fields x t (i + 3) ms → Sub x t i (tree.obj p e ms)
 
   pub data Subs (x t : List ℕ) : ℕ → Items → Type 0 where
-    nil : {i : ℕ} → Subs x t i tree.none
+    nil : {i : ℕ} → Subs x t i tree.noItems
     cons : {i : ℕ} {v : Json} {vs : Items} → Sub x t i v → Subs x t (i + size v) vs → Subs x t i (v ▸ vs)
 
   pub data Fields (x t : List ℕ) : ℕ → Members → Type 0 where

@@ -1,4 +1,4 @@
--- The tree of a JSON text, with the place of each value and each name. Assumes nothing: these are definitions.
+-- The tree of a JSON text, with the place of each value and each name.
 use Prim.Native.Nat.{ℕ}
 use mathlib.Core.Bool.{Bool}
 use mathlib.Core.List.{List}
@@ -22,7 +22,7 @@ mutual
 
   -- the elements of an array, in the text's order
   pub data Items : Type 0 where
-    none : Items
+    noItems : Items
     _▸_ : Json → Items → Items
 
   -- the members of an object, in the text's order
@@ -33,7 +33,7 @@ mutual
 infixr 60 _▸_
 -- one element more
 unfoldable pub _◂_ : Items → Json → Items
-none ◂ v = v ▸ none
+noItems ◂ v = v ▸ noItems
 (u ▸ us) ◂ v = u ▸ (us ◂ v)
 
 infixl 60 _◂_

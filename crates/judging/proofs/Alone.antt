@@ -1,4 +1,4 @@
--- A tree that keeps rule 6 has no two city objects of one ID. Assumes nothing.
+-- A tree that keeps rule 6 has no two city objects of one ID.
 use Prim.Native.Nat.{ℕ, zero, suc, _<_}
 use native.Mathlib.Omega.{arith}
 use mathlib.Core.Path.{_≡_, refl}
@@ -15,7 +15,7 @@ use Rattle.json.specs.Tree.{Json, null, bool, num, str, arr, obj, Members, empt
 use Rattle.nodes.specs.Access.{nameOf, pairs, members, firstNamed, find}
 use Rattle.everywhere.specs.Everywhere.{among, repeated, rule6, rule6Of}
 use Rattle.fields.specs.Fields.{membersIn, objectsOf}
-use Rattle.model.specs.Model.{numberOf}
+use Rattle.model.specs.Model.{objectNumber}
 use Rattle.ids.specs.Says.{namesOf}
 use Rattle.sheets.specs.Clear.{nil-left, nil-right}
 
@@ -44,8 +44,8 @@ fresh us (member n v ms) e (suc k) h =
     neither (same (decode (n .raw)) u) (among us u) (fresh (decode (n .raw) ∷ us) ms (later us n v ms e) k (omega arith)) .1
 
 -- so the first of its name is itself
-numbered : (us : List (List ℕ)) (ms : Members) → repeated us ms ≡ [] → (k : ℕ) → k < length (pairs ms) → numberOf (namesOf (pairs ms)) (getD (namesOf (pairs ms)) k []) ≡ k
-unfolding pairs namesOf nameOf among numberOf
+numbered : (us : List (List ℕ)) (ms : Members) → repeated us ms ≡ [] → (k : ℕ) → k < length (pairs ms) → objectNumber (namesOf (pairs ms)) (getD (namesOf (pairs ms)) k []) ≡ k
+unfolding pairs namesOf nameOf among objectNumber
 numbered us empty e k h = absurd (omega arith)
 numbered us (member n v ms) e zero h = rw (same-refl (decode (n .raw))) refl
 numbered us (member n v ms) e (suc k) h =
@@ -75,7 +75,7 @@ found-keeps name (str p e raw) o c f = cc
 found-keeps name (arr p e vs) o c f = cc
 found-keeps name (obj p e ms) o c f = member-keeps name ms o (nil-right (repeated [] ms) (rule6Of ms) c) f
 
-of-value : (o : Json) → rule6 o ≡ [] → (k : ℕ) → k < length (members o) → numberOf (namesOf (members o)) (getD (namesOf (members o)) k []) ≡ k
+of-value : (o : Json) → rule6 o ≡ [] → (k : ℕ) → k < length (members o) → objectNumber (namesOf (members o)) (getD (namesOf (members o)) k []) ≡ k
 unfolding rule6 members
 of-value (null p e) c k h = absurd (omega arith)
 of-value (bool p e b) c k h = absurd (omega arith)
@@ -85,10 +85,10 @@ of-value (arr p e vs) c k h = absurd (omega arith)
 of-value (obj p e ms) c k h = numbered [] ms (nil-left (repeated [] ms) (rule6Of ms) c) k h
 
 -- the number of an ID is its object's place
-pub alone : (v : Json) → rule6 v ≡ [] → (k : ℕ) → k < length (objectsOf v) → numberOf (namesOf (objectsOf v)) (getD (namesOf (objectsOf v)) k []) ≡ k
+pub alone : (v : Json) → rule6 v ≡ [] → (k : ℕ) → k < length (objectsOf v) → objectNumber (namesOf (objectsOf v)) (getD (namesOf (objectsOf v)) k []) ≡ k
 unfolding objectsOf find membersIn
 alone v c k h = by (firstNamed (ascii "CityObjects") (members v)) refl h
   where
-    by : (o : Option Json) → firstNamed (ascii "CityObjects") (members v) ≡ o → k < length (membersIn o) → numberOf (namesOf (membersIn o)) (getD (namesOf (membersIn o)) k []) ≡ k
+    by : (o : Option Json) → firstNamed (ascii "CityObjects") (members v) ≡ o → k < length (membersIn o) → objectNumber (namesOf (membersIn o)) (getD (namesOf (membersIn o)) k []) ≡ k
     by option.none f l = absurd (omega arith)
     by (some o) f l = of-value o (found-keeps (ascii "CityObjects") v o c f) k l

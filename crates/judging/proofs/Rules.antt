@@ -1,4 +1,4 @@
--- What the proofs of the functions that judge use. Assumes nothing.
+-- What the proofs of the functions that judge use.
 use Prim.Native.Nat.{ℕ, _≤_, _<_}
 use native.Mathlib.Omega.{arith}
 use mathlib.Core.Path.{_≡_, sym, ap, _∙_, subst}
@@ -14,7 +14,7 @@ use Rattle.json.specs.Parse.{Tells}
 use Rattle.json.specs.declared.Parsed.{Parsed}
 use Rattle.json.specs.declared.Parsed.the-variants as parse
 use Rattle.everywhere.specs.Everywhere.{rule5, rule6}
-use Rattle.nodes.specs.Faults.{fault, least, none}
+use Rattle.nodes.specs.Faults.{fault, least, noFault}
 use Rattle.nodes.specs.Says.{Gives}
 use Rattle.fields.specs.Fields.{objectsOf}
 use Rattle.schema.specs.Schema.{cityJson}
@@ -24,7 +24,7 @@ use Rattle.links.specs.Says.{Ready, LinksGive}
 use Rattle.verdict.specs.Verdict.{faults}
 use Rattle.verdict.specs.Exact.{in-text}
 use Rattle.verdict.specs.Places.{Placed, early}
-use Rattle.refusals.specs.Refusals.{numberOf}
+use Rattle.refusals.specs.Refusals.{ruleNumber}
 use Rattle.refusals.specs.declared.Broken.the-variants as broken
 use Rattle.judging.specs.declared.Screened.the-variants as screened
 use Rattle.judging.specs.declared.Opened.{Opened}
@@ -38,12 +38,12 @@ use Rattle.judging.proofs.Alone.{alone}
 
 module _ (x : List ℕ) where
   pub screen-long : 65535 < length x → screenedAs (screened.Refused (record { rule = broken.TooLong; place = 65535 })) ≡ screening x
-  unfolding screenedAs screening numberOf
+  unfolding screenedAs screening ruleNumber
   screen-long h = rw (lt-ltb 65535 (length x) h)
 
   module _ {n : ℕ} (short : length x ≤ 65535) (whole : n ≡ wholeLength x) where
     pub screen-odd : n < length x → screenedAs (screened.Refused (record { rule = broken.NotUtf8; place = n })) ≡ screening x
-    unfolding screenedAs screening numberOf
+    unfolding screenedAs screening ruleNumber
     screen-odd h = rw (le-ltb 65535 (length x) short, lt-ltb (wholeLength x) (length x) (omega arith), whole)
 
     pub screen-passed : length x ≤ n → screenedAs screened.Passed ≡ screening x
@@ -61,11 +61,11 @@ module _ (x t₀ t : List ℕ) {r : Parsed} (h : Tells x t₀ t r) where
       record { is = rw (s .reads, s .ends); holds = λ k q. let z : n ≡ k = cc in rw (← z) m }
 
   pub open-bad : {p : ℕ} → r ≡ parse.Bad p → Opens x t₀ t (opened.Refused (record { rule = broken.NotJson; place = p }))
-  unfolding Tells openedAs opening numberOf
+  unfolding Tells openedAs opening ruleNumber
   open-bad e = record { is = rw (subst (Tells x t₀ t) e h .1); holds = λ k q. clash cc }
 
   pub open-deep : {p : ℕ} → r ≡ parse.Deep p → Opens x t₀ t (opened.Refused (record { rule = broken.TooDeep; place = p }))
-  unfolding Tells openedAs opening numberOf
+  unfolding Tells openedAs opening ruleNumber
   open-deep e = record { is = rw (subst (Tells x t₀ t) e h .1); holds = λ k q. clash cc }
 
   -- neither happens
@@ -80,31 +80,31 @@ module _ (x t₀ t : List ℕ) {r : Parsed} (h : Tells x t₀ t r) where
 -- ---- rules 5 to 17
 
 -- the least fault and the index of the tree are those of the text
-examined : {x t : List ℕ} {n : ℕ} {w : Walked} (s : Stands x t n) → IndexedAt x t (w .index) → w .least ≡ least none (faults (s .value)) → Examined x t w
+examined : {x t : List ℕ} {n : ℕ} {w : Walked} (s : Stands x t n) → IndexedAt x t (w .index) → w .least ≡ least noFault (faults (s .value)) → Examined x t w
 examined {x} {t} s i e = record {
-  least = λ v q. e ∙ ap (λ u. least none (faults u)) (cc);
+  least = λ v q. e ∙ ap (λ u. least noFault (faults u)) (cc);
   from = from-five (s .value) (in-text x (s .value) (s .short) (s .reads)) e;
   indexed = λ v q. i .is v (subst (Sub x t 0) (cc) (s .stands));
 }
 
-module _ {x t : List ℕ} {n a b : ℕ} {w : Walked} (s : Stands x t n) (five : Gives (λ v. least none (map (fault 5) (rule5 v))) x t 0 a) (six : Gives (λ v. least a (map (fault 6) (rule6 v))) x t 0 b)
+module _ {x t : List ℕ} {n a b : ℕ} {w : Walked} (s : Stands x t n) (five : Gives (λ v. least noFault (map (fault 5) (rule5 v))) x t 0 a) (six : Gives (λ v. least a (map (fault 6) (rule6 v))) x t 0 b)
     (schema : Gives (λ v. least b (cityJson v)) x t 0 (w .least)) (index : IndexedAt x t (w .index)) where
   placed : Placed (s .value)
   placed = in-text x (s .value) (s .short) (s .reads)
 
-  walked : w .least ≡ least none (early (s .value))
+  walked : w .least ≡ least noFault (early (s .value))
   walked = early-passes (s .value) (five .is (s .value) (s .stands)) (six .is (s .value) (s .stands)) (schema .is (s .value) (s .stands))
 
-  pub examine-early : w .least < none → Examined x t w
+  pub examine-early : w .least < noFault → Examined x t w
   examine-early h = examined s index (before-links (s .value) placed walked h)
 
-  few : none ≤ w .least → length (objectsOf (s .value)) ≤ 1024
+  few : noFault ≤ w .least → length (objectsOf (s .value)) ≤ 1024
   few h = few-objects (s .value) (no-schema (s .value) placed walked h)
 
-  pub examine-ready : none ≤ w .least → Ready x t (w .index)
+  pub examine-ready : noFault ≤ w .least → Ready x t (w .index)
   examine-ready h = record { value = s .value; stands = s .stands; short = s .short; few = few h; indexed = index .is; alone = alone (s .value) (no-repeat (s .value) placed walked h) }
 
-  pub examine-late : {d : ℕ} → none ≤ w .least → LinksGive x t (w .least) d → Examined x t (record { index = w .index; least = d })
+  pub examine-late : {d : ℕ} → noFault ≤ w .least → LinksGive x t (w .least) d → Examined x t (record { index = w .index; least = d })
   examine-late h g = examined s index (all-passes (s .value) walked (g .is (s .value) (s .stands) (few h)))
 
 pub ruleset judges = (needs, screen-long, screen-odd, screen-passed, passed-short, passed-judged, screened-refused, open-tree, open-bad, open-deep, open-long, open-short, opened-tree, opened-refused, examine-early, examine-ready, examine-late, table-refused, table-accepted)

@@ -1,4 +1,4 @@
--- What judge and its parts answer. Assumes nothing: these are definitions.
+-- What judge and its parts answer.
 use mathlib.Core.Path.{_≡_}
 use mathlib.Core.Bool.{cond}
 use mathlib.Core.List.{List}
@@ -16,7 +16,7 @@ use Rattle.fields.specs.Fields.{objectsOf}
 use Rattle.fields.specs.Says.{Indexed}
 use Rattle.schema.specs.declared.Walked.{Walked}
 use Rattle.verdict.specs.Verdict as verdict
-use Rattle.refusals.specs.Refusals.{numberOf, refusal}
+use Rattle.refusals.specs.Refusals.{ruleNumber, refusal}
 use Rattle.judging.specs.declared.Screened.{Screened}
 use Rattle.judging.specs.declared.Screened.the-variants as screened
 use Rattle.judging.specs.declared.Opened.{Opened}
@@ -25,10 +25,10 @@ use Rattle.judging.specs.declared.Verdict.{Verdict}
 use Rattle.judging.specs.declared.Verdict.the-variants.{Accepted, Refused}
 
 -- an answer as the verdict that it is
-unfoldable pub told : Verdict → verdict.Verdict
-unfolding numberOf
-told (Accepted n) = verdict.accepted n
-told (Refused f) = refusal f
+unfoldable pub verdictOf : Verdict → verdict.Verdict
+unfolding ruleNumber
+verdictOf (Accepted n) = verdict.accepted n
+verdictOf (Refused f) = refusal f
 
 -- the first n words of the table t are those of the tree that the text x, which is not too long, is read as
 pub record Stands (x t : List ℕ) (n : ℕ) : Type 0 where
@@ -79,6 +79,6 @@ pub record Opens (x t₀ t : List ℕ) (r : Opened) : Type 0 where
 
 -- the least fault of the rules 5 to 17 of the tree that the text x is read as, and the index over the table t of its city objects
 pub record Examined (x t : List ℕ) (w : Walked) : Type 0 where
-  pub least : (v : Json) → read x ≡ reads v → w .least ≡ faults.least faults.none (verdict.faults v)
+  pub least : (v : Json) → read x ≡ reads v → w .least ≡ faults.least faults.noFault (verdict.faults v)
   pub from : 5 * 65536 ≤ w .least
   pub indexed : (v : Json) → read x ≡ reads v → Indexed x t (objectsOf v) (w .index)

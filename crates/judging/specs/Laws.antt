@@ -1,4 +1,4 @@
--- What follows from what the parts of judge answered. Assumes nothing.
+-- What follows from what the parts of judge answered.
 use Prim.Native.Nat.{ℕ, _≤_, _<_}
 use native.Mathlib.Omega.{arith}
 use mathlib.Core.Path.{_≡_, refl, sym, ap, _∙_, subst}
@@ -13,7 +13,7 @@ use borrow.Author.Tests.{ltb-true, ltb-false}
 use Rattle.utf8.specs.Utf8.{wholeLength}
 use Rattle.utf8.specs.Laws.{clash}
 use Rattle.json.specs.Machine.{Outcome, read, reads, bad, tooDeep}
-use Rattle.nodes.specs.Faults.{ruleOf, placeIn, none}
+use Rattle.nodes.specs.Faults.{ruleOf, placeIn, noFault}
 use Rattle.schema.specs.declared.Walked.{Walked}
 use Rattle.verdict.specs.Verdict.{accepted, refused, faults, parsed, verdict}
 use Rattle.verdict.specs.Verdict as judged
@@ -26,7 +26,7 @@ use Rattle.judging.specs.declared.Opened.{Opened}
 use Rattle.judging.specs.declared.Opened.the-variants as opened
 use Rattle.judging.specs.declared.Verdict.{Verdict}
 use Rattle.judging.specs.declared.Verdict.the-variants.{Accepted, Refused}
-use Rattle.judging.specs.Judging.{told, screening, screenedAs, opening, openedAs, Stands, Opens, Examined}
+use Rattle.judging.specs.Judging.{verdictOf, screening, screenedAs, opening, openedAs, Stands, Opens, Examined}
 use Rattle.judging.specs.Least.{no-fault, judged-fault, judged-none, few-clean}
 
 -- ---- rules 1 and 2
@@ -58,11 +58,11 @@ module _ (x : List ℕ) {r : Screened} (h : screenedAs r ≡ screening x) where
   unfolding screenedAs
   passed-verdict e = screened-left x h e .1
 
-  pub passed-judged : (a : Verdict) → r ≡ screened.Passed → told a ≡ parsed (read x) → told a ≡ verdict x
+  pub passed-judged : (a : Verdict) → r ≡ screened.Passed → verdictOf a ≡ parsed (read x) → verdictOf a ≡ verdict x
   passed-judged a e j = j ∙ sym (passed-verdict e)
 
-  pub screened-refused : {f : Refusal} → r ≡ screened.Refused f → told (Refused f) ≡ verdict x
-  unfolding screenedAs told
+  pub screened-refused : {f : Refusal} → r ≡ screened.Refused f → verdictOf (Refused f) ≡ verdict x
+  unfolding screenedAs verdictOf
   screened-refused e = sym (screened-left x h e)
 
 -- ---- rules 3 and 4
@@ -71,8 +71,8 @@ module _ (x t₀ t : List ℕ) {r : Opened} (h : Opens x t₀ t r) where
   pub opened-tree : {n : ℕ} → r ≡ opened.Tree n → Stands x t n
   opened-tree e = h .holds _ e .tree
 
-  pub opened-refused : {f : Refusal} → r ≡ opened.Refused f → told (Refused f) ≡ parsed (read x)
-  unfolding told openedAs opening parsed
+  pub opened-refused : {f : Refusal} → r ≡ opened.Refused f → verdictOf (Refused f) ≡ parsed (read x)
+  unfolding verdictOf openedAs opening parsed
   opened-refused {f} e = by (read x) (sym (ap openedAs e) ∙ h .is)
     where
       by : (o : Outcome) → inr (refusal f) ≡ opening o → refusal f ≡ parsed o
@@ -84,15 +84,15 @@ module _ (x t₀ t : List ℕ) {r : Opened} (h : Opens x t₀ t r) where
 
 module _ {x t : List ℕ} {n : ℕ} {w : Walked} (s : Stands x t n) (h : Examined x t w) where
   -- a tree with no fault
-  pub clean : none ≤ w .least → faults (s .value) ≡ []
+  pub clean : noFault ≤ w .least → faults (s .value) ≡ []
   clean k = no-fault (s .value) (in-text x (s .value) (s .short) (s .reads)) (h .least (s .value) (s .reads)) k
 
-  pub table-refused : (f : Refusal) → w .least < none → refusal f ≡ refused (ruleOf (w .least)) (placeIn (w .least)) → told (Refused f) ≡ parsed (read x)
-  unfolding told parsed
+  pub table-refused : (f : Refusal) → w .least < noFault → refusal f ≡ refused (ruleOf (w .least)) (placeIn (w .least)) → verdictOf (Refused f) ≡ parsed (read x)
+  unfolding verdictOf parsed
   table-refused f k e = e ∙ sym (ap parsed (s .reads) ∙ judged-fault (s .value) (h .least (s .value) (s .reads)) k)
 
-  pub table-accepted : none ≤ w .least → told (Accepted (w .index .count)) ≡ parsed (read x)
-  unfolding told parsed
+  pub table-accepted : noFault ≤ w .least → verdictOf (Accepted (w .index .count)) ≡ parsed (read x)
+  unfolding verdictOf parsed
   table-accepted k =
       let few = few-clean (s .value) (clean k) in
       let counted = h .indexed (s .value) (s .reads) .count in

@@ -4,8 +4,9 @@ ghost use mathlib.Core.Path.{_≡_};
 ghost use lib.ListN.{length};
 ghost use Rattle.verdict.specs.Verdict.{parsed, verdict};
 ghost use Rattle.json.specs.Machine.{read};
-ghost use Rattle.judging.specs.Judging.{told, screening, screenedAs, Room, Stands, Opens, Examined};
+ghost use Rattle.judging.specs.Judging.{verdictOf, screening, screenedAs, Room, Stands, Opens, Examined};
 use json::Parsed;
+use nodes::NO_FAULT;
 use refusals::Broken;
 use refusals::Refusal;
 use schema::Walked;
@@ -81,11 +82,11 @@ pub fn examine(text: &[u8], table: &[u32], n: usize) -> Walked
     requires { ⌜ Stands (now text) (now table) n ⌝ }
     ensures { λ r. ⌜ Examined (now (text .entry)) (now (table .entry)) r ⌝ }
 {
-    let a = everywhere::unpaired(text, table, n, 1179648);
+    let a = everywhere::unpaired(text, table, n, NO_FAULT);
     let b = everywhere::repeated(text, table, n, a);
     let walked = schema::root(text, table, b);
     let c = walked.least;
-    if c < 1179648 {
+    if c < NO_FAULT {
         return walked;
     }
     let index = walked.index;
@@ -99,11 +100,11 @@ pub fn examine(text: &[u8], table: &[u32], n: usize) -> Walked
 // Rules 5 to 17 over the node table of a text, whose first n words are its tree's.
 fn judge_table(text: &[u8], table: &[u32], n: usize) -> Verdict
     requires { ⌜ Stands (now text) (now table) n ⌝ }
-    ensures { λ r. ⌜ told r ≡ parsed (read (now (text .entry))) ⌝ }
+    ensures { λ r. ⌜ verdictOf r ≡ parsed (read (now (text .entry))) ⌝ }
 {
     let walked = examine(text, table, n);
     let least = walked.least;
-    if least < 1179648 {
+    if least < NO_FAULT {
         return Verdict::Refused(refusals::refuse_fault(least));
     }
     let index = walked.index;
@@ -113,7 +114,7 @@ fn judge_table(text: &[u8], table: &[u32], n: usize) -> Verdict
 // Rules 3 to 17 of a text, with a work table that has room for its tree.
 fn judge_in(text: &[u8], table: &mut [u32]) -> Verdict
     requires { ⌜ Room (now text) (now table) ⌝ }
-    ensures { λ r. ⌜ told r ≡ parsed (read (now (text .entry))) ⌝ }
+    ensures { λ r. ⌜ verdictOf r ≡ parsed (read (now (text .entry))) ⌝ }
 {
     let opened = open(text, table);
     match opened {
@@ -125,7 +126,7 @@ fn judge_in(text: &[u8], table: &mut [u32]) -> Verdict
 // Rules 3 to 17 of a text of at most 4,096 bytes. A small work table is cleared sooner.
 fn judge_short(text: &[u8]) -> Verdict
     requires { ⌜ length (now text) ≤ 4096 ⌝ }
-    ensures { λ r. ⌜ told r ≡ parsed (read (now (text .entry))) ⌝ }
+    ensures { λ r. ⌜ verdictOf r ≡ parsed (read (now (text .entry))) ⌝ }
 {
     let mut space: [u32; 6194] = [0; 6194];
     let table: &mut [u32] = &mut space;
@@ -135,7 +136,7 @@ fn judge_short(text: &[u8]) -> Verdict
 // Rules 3 to 17 of a text that is not too long.
 fn judge_long(text: &[u8]) -> Verdict
     requires { ⌜ length (now text) ≤ 65535 ⌝ }
-    ensures { λ r. ⌜ told r ≡ parsed (read (now (text .entry))) ⌝ }
+    ensures { λ r. ⌜ verdictOf r ≡ parsed (read (now (text .entry))) ⌝ }
 {
     let mut space: [u32; 98352] = [0; 98352];
     let table: &mut [u32] = &mut space;
@@ -145,7 +146,7 @@ fn judge_long(text: &[u8]) -> Verdict
 // Rules 3 to 17 of a text that is not too long, with a work table of a size that suits it.
 fn judge_json(text: &[u8]) -> Verdict
     requires { ⌜ length (now text) ≤ 65535 ⌝ }
-    ensures { λ r. ⌜ told r ≡ parsed (read (now (text .entry))) ⌝ }
+    ensures { λ r. ⌜ verdictOf r ≡ parsed (read (now (text .entry))) ⌝ }
 {
     if text.len() <= 4096 {
         return judge_short(text);
@@ -155,7 +156,7 @@ fn judge_json(text: &[u8]) -> Verdict
 
 // Judges a text: the number of its city objects, or the lowest broken rule at its earliest place.
 pub fn judge(text: &[u8]) -> Verdict
-    ensures { λ r. ⌜ told r ≡ verdict (now (text .entry)) ⌝ }
+    ensures { λ r. ⌜ verdictOf r ≡ verdict (now (text .entry)) ⌝ }
 {
     let screened = screen(text);
     match screened {

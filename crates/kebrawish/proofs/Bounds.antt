@@ -1,4 +1,4 @@
--- How large the numbers of an answer are. Assumes nothing.
+-- How large the numbers of an answer are.
 use Prim.Native.Nat.{ℕ, _^_, _≤_, _<_}
 use native.Mathlib.Omega.{arith}
 use native.Mathlib.Decide.{decLt}
@@ -14,13 +14,13 @@ use Rattle.sheets.specs.Laid.{sheetOfText, fitted, answer}
 use Rattle.sheets.specs.Laid as laid
 use Rattle.sheets.specs.Answers.{of-laid}
 use Rattle.sheets.specs.Theorems.{sizes}
-use Rattle.refusals.specs.Refusals.{numberOf}
+use Rattle.refusals.specs.Refusals.{ruleNumber}
 use Rattle.refusals.specs.declared.Broken.{Broken}
 use Rattle.refusals.specs.declared.Broken.the-variants as broken
 use Rattle.refusals.specs.declared.Refusal.{Refusal}
 use Rattle.judging.specs.declared.Verdict.{Verdict as Answer}
 use Rattle.judging.specs.declared.Verdict.the-variants.{Accepted, Refused}
-use Rattle.judging.specs.Judging.{told}
+use Rattle.judging.specs.Judging.{verdictOf}
 use Rattle.judging.specs.Least.{few-clean}
 use Rattle.laying.specs.declared.Answer as laid-answer
 use Rattle.laying.specs.declared.Answer.the-variants as answers
@@ -46,8 +46,8 @@ place-small x r p e = by (decLt 65535 (length x))
 pub count-small : (x : List ℕ) (n : ℕ) → verdict x ≡ accepted n → n ≤ 1024
 count-small x n e = let c = accepted-clean x n e in omega (arith, few-clean (c .value) (c .clean), c .count)
 
-pub number-small : (r : Broken) → numberOf r < 256
-unfolding numberOf
+pub number-small : (r : Broken) → ruleNumber r < 256
+unfolding ruleNumber
 number-small broken.TooLong = omega arith
 number-small broken.NotUtf8 = omega arith
 number-small broken.NotJson = omega arith
@@ -69,13 +69,13 @@ number-small broken.NoRoom = omega arith
 
 -- ---- what judge answered
 
-pub of-accepted : (x : List ℕ) {r : Answer} {n : ℕ} → told r ≡ verdict x → r ≡ Accepted n → verdict x ≡ accepted n
-unfolding told
-of-accepted x h e = sym h ∙ ap told e
+pub of-accepted : (x : List ℕ) {r : Answer} {n : ℕ} → verdictOf r ≡ verdict x → r ≡ Accepted n → verdict x ≡ accepted n
+unfolding verdictOf
+of-accepted x h e = sym h ∙ ap verdictOf e
 
-pub of-refused : (x : List ℕ) {r : Answer} {s : Refusal} → told r ≡ verdict x → r ≡ Refused s → verdict x ≡ refused (numberOf (s .rule)) (s .place)
-unfolding told
-of-refused x h e = sym h ∙ ap told e
+pub of-refused : (x : List ℕ) {r : Answer} {s : Refusal} → verdictOf r ≡ verdict x → r ≡ Refused s → verdict x ≡ refused (ruleNumber (s .rule)) (s .place)
+unfolding verdictOf
+of-refused x h e = sym h ∙ ap verdictOf e
 
 -- ---- what lay answered
 
@@ -84,7 +84,7 @@ module _ (x : List ℕ) (room : ℕ) {r : laid-answer.Answer} (h : answered r �
   unfolding answered
   of-laid-answer e = sym h ∙ ap answered e
 
-  pub of-refused-answer : {s : Refusal} → r ≡ answers.Refused s → answer x room ≡ laid.refused (numberOf (s .rule)) (s .place)
+  pub of-refused-answer : {s : Refusal} → r ≡ answers.Refused s → answer x room ≡ laid.refused (ruleNumber (s .rule)) (s .place)
   unfolding answered
   of-refused-answer e = sym h ∙ ap answered e
 

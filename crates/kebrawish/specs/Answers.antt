@@ -1,4 +1,4 @@
--- What the functions for C answer, in one word. Assumes nothing: these are definitions.
+-- What the functions for C answer, in one word.
 use Prim.Native.Nat.{ℕ, _+_, _*_, _^_}
 use Rattle.verdict.specs.Verdict as verdict
 use Rattle.sheets.specs.Laid as laid

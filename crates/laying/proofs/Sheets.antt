@@ -1,4 +1,4 @@
--- What the functions that lay use: an accepted text's table is as the writers ask, and what they wrote is the sheet. Assumes nothing.
+-- What the functions that lay use: an accepted text's table is as the writers ask, and what they wrote is the sheet.
 use Prim.Native.Nat.{ℕ, _+_, _-_, _^_, _≤_, _<_}
 use native.Mathlib.Omega.{arith}
 use mathlib.Core.Path.{_≡_, sym, ap, _∙_, subst}
@@ -10,7 +10,7 @@ use Rattle.json.specs.Tree.{Json}
 use Rattle.json.specs.Machine.{read, reads, treeIn, treeOf}
 use Rattle.json.specs.Table.{Sub}
 use Rattle.everywhere.specs.Everywhere.{rule5, rule6}
-use Rattle.nodes.specs.Faults.{fault, none}
+use Rattle.nodes.specs.Faults.{fault, noFault}
 use Rattle.fields.specs.Fields.{objectsOf}
 use Rattle.schema.specs.Schema.{cityJson}
 use Rattle.schema.specs.declared.Walked.{Walked}
@@ -31,13 +31,13 @@ use Rattle.arrays.specs.Laws.{holds-at}
 use Rattle.arrays.specs.Unique.{unique}
 use Rattle.records.specs.Accepted.{text-fits}
 use Rattle.records.specs.Says.{Ready, SheetWrote}
-use Rattle.refusals.specs.Refusals.{numberOf}
+use Rattle.refusals.specs.Refusals.{ruleNumber}
 use Rattle.refusals.specs.declared.Broken.the-variants as broken
 use Rattle.refusals.specs.declared.Refusal.{Refusal}
 use Rattle.judging.specs.declared.Screened.{Screened}
 use Rattle.judging.specs.declared.Screened.the-variants as screened
 use Rattle.judging.specs.declared.Verdict.the-variants.{Refused}
-use Rattle.judging.specs.Judging.{told, screening, screenedAs, Stands, Examined}
+use Rattle.judging.specs.Judging.{verdictOf, screening, screenedAs, Stands, Examined}
 use Rattle.judging.specs.Laws.{passed-short, passed-verdict, screened-refused, opened-tree, opened-refused, clean, table-accepted}
 use Rattle.judging.specs.Least.{few-clean}
 use Rattle.laying.specs.declared.Answer.the-variants as answers
@@ -51,13 +51,13 @@ zeroed {d} n e = e ∙ ap (λ k. replicate k 0) (sym (ap length e ∙ length-rep
 
 -- ---- a refusal
 
-pub refuses : {x d : List ℕ} {v : verdict.Verdict} (f : Refusal) → told (Refused f) ≡ v → Zeroes d → Lays x v d d (answered (answers.Refused f))
-unfolding told answered fitted filled Zeroes
+pub refuses : {x d : List ℕ} {v : verdict.Verdict} (f : Refusal) → verdictOf (Refused f) ≡ v → Zeroes d → Lays x v d d (answered (answers.Refused f))
+unfolding verdictOf answered fitted filled Zeroes
 refuses f e z = record { gives = rw (← e); leaves = z }
 
 -- ---- the sheet
 
-module _ {x t : List ℕ} {n : ℕ} {w : Walked} (s : Stands x t n) (h : Examined x t w) (k : none ≤ w .least) where
+module _ {x t : List ℕ} {n : ℕ} {w : Walked} (s : Stands x t n) (h : Examined x t w) (k : noFault ≤ w .least) where
   -- the rules 7 to 14 find no fault
   rules-kept : cityJson (s .value) ≡ []
   unfolding faults
@@ -83,7 +83,7 @@ module _ {x t : List ℕ} {n : ℕ} {w : Walked} (s : Stands x t n) (h : Examine
   sheet-low = short-enough (s .value) (tree-within 65535 x (s .value) (s .short) (s .reads))
 
   accepted-as : parsed (read x) ≡ verdict.accepted (w .index .count)
-  unfolding told
+  unfolding verdictOf
   accepted-as = sym (table-accepted s h k)
 
   module _ {d₀ d : List ℕ} {size : ℕ} (z : Zeroes d₀) (u : SheetWrote x t d₀ d size) where
@@ -102,7 +102,7 @@ module _ {x t : List ℕ} {n : ℕ} {w : Walked} (s : Stands x t n) (h : Examine
         record { gives = rw (accepted-as, le-leb _ _ f, a); leaves = rw a (b f) }
 
     pub lay-no-room : {e : List ℕ} → length d < size → e ≡ replicate (length d) 0 → Lays x (parsed (read x)) d₀ e (answered (answers.Refused (record { rule = broken.NoRoom; place = 0 })))
-    unfolding answered fitted filled numberOf
+    unfolding answered fitted filled ruleNumber
     lay-no-room l q =
         let (a, b) = wrote-all in
         let m = u .is (s .value) (s .stands) .room in

@@ -1,19 +1,19 @@
--- What lay answers, and the sheet that it leaves. Assumes nothing: these are definitions.
+-- What lay answers, and the sheet that it leaves.
 use mathlib.Core.Path.{_≡_}
 use mathlib.Core.List.{List}
 use Prim.Native.Nat.{ℕ}
 use lib.ListN.{length, replicate}
 use Rattle.verdict.specs.Verdict as verdict
 use Rattle.sheets.specs.Laid as laid
-use Rattle.refusals.specs.Refusals.{numberOf}
+use Rattle.refusals.specs.Refusals.{ruleNumber}
 use Rattle.laying.specs.declared.Answer.{Answer}
 use Rattle.laying.specs.declared.Answer.the-variants as answers
 
 -- what lay answers, as the answer that it is
 unfoldable pub answered : Answer → laid.Answer
-unfolding numberOf
+unfolding ruleNumber
 answered (answers.Laid size objects) = laid.laid size objects
-answered (answers.Refused f) = laid.refused (numberOf (f .rule)) (f .place)
+answered (answers.Refused f) = laid.refused (ruleNumber (f .rule)) (f .place)
 
 -- the sheet d is all zeroes
 unfoldable pub Zeroes : List ℕ → Type 0

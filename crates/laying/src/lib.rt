@@ -9,6 +9,7 @@ ghost use Rattle.judging.specs.Judging.{Stands, Room};
 ghost use Rattle.laying.specs.Laying.{answered, Zeroes, Lays};
 use judging::Opened;
 use judging::Screened;
+use nodes::NO_FAULT;
 use refusals::Broken;
 use refusals::Refusal;
 
@@ -25,7 +26,7 @@ fn lay_table(text: &[u8], table: &[u32], n: usize, sheet: &mut [u8]) -> Answer
 {
     let walked = judging::examine(text, table, n);
     let fault = walked.least;
-    if fault < 1179648 {
+    if fault < NO_FAULT {
         return Answer::Refused(refusals::refuse_fault(fault));
     }
     let index = walked.index;

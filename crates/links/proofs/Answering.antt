@@ -1,4 +1,4 @@
--- Rule 17 of the values of a list, one after the other, where the rows of a set have what all objects list on the other side. Assumes nothing.
+-- Rule 17 of the values of a list, one after the other, where the rows of a set have what all objects list on the other side.
 use Prim.Native.Nat.{ℕ, _+_, _-_, _≤_, _<_}
 use Prim.Native.String.{String}
 use native.Mathlib.Omega.{arith}
@@ -13,7 +13,7 @@ use Rattle.utf8.specs.Laws.{clash}
 use Rattle.words.specs.Words.{is}
 use Rattle.grid.specs.Grid.{holds}
 use Rattle.json.specs.Tree.{Json}
-use Rattle.model.specs.Model.{numberOf}
+use Rattle.model.specs.Model.{objectNumber}
 use Rattle.nodes.specs.Access.{isStringValue, isArrayValue, textOf, Member, firstNamed}
 use Rattle.everywhere.specs.Everywhere.{among}
 use Rattle.nodes.specs.Faults.{least}
@@ -83,11 +83,11 @@ unfolding openAt
 open-by b ms back id v u answered z q a = rw (z, q, ← a)
 
 -- what the row of the linked object tells
-row-tells : {x t offsets : List ℕ} {count k other own : ℕ} {g : List ℕ} {ms : List Member} (back : String) (id : List ℕ) → Numbers x t offsets count k other → Offsets x t ms offsets count → other < count → own < count → RowsTo ms back g count → own ≡ numberOf (namesOf ms) id
+row-tells : {x t offsets : List ℕ} {count k other own : ℕ} {g : List ℕ} {ms : List Member} (back : String) (id : List ℕ) → Numbers x t offsets count k other → Offsets x t ms offsets count → other < count → own < count → RowsTo ms back g count → own ≡ objectNumber (namesOf ms) id
     → holds g other own ≡ among (idsIn back (firstNamed (textAt x t k) ms)) id
 unfolding idsIn namesOf
 row-tells {x} {t} {k = k} {other} {own} {g} {ms} back id d o l m r q =
-    let n : other ≡ numberOf (namesOf ms) (textAt x t k) = d .is ms o in
+    let n : other ≡ objectNumber (namesOf ms) (textAt x t k) = d .is ms o in
     let f : firstNamed (textAt x t k) ms ≡ some (getD ms other nobody .1) = rw n (named-number ms nobody (textAt x t k) (omega (arith, o .all))) in
     let vs = listedIn back (getD ms other nobody .1) in
     r .done other nobody l .is own (omega (arith, names-all o))
@@ -129,7 +129,7 @@ open-cons b ms back id v vs = least-++ b (openAt ms back id false v) (openIn ms 
 
 -- the faults of `all` are those of what is left
 pub record Rests (x t offsets : List ℕ) (count own best acc : ℕ) (g : List ℕ) (all left : List Json) : Type 0 where
-  pub of : (ms : List Member) → Offsets x t ms offsets count → (back : String) → RowsTo ms back g count → (id : List ℕ) → own ≡ numberOf (namesOf ms) id → least acc (openIn ms back id false left) ≡ least best (openIn ms back id false all)
+  pub of : (ms : List Member) → Offsets x t ms offsets count → (back : String) → RowsTo ms back g count → (id : List ℕ) → own ≡ objectNumber (namesOf ms) id → least acc (openIn ms back id false left) ≡ least best (openIn ms back id false all)
 
 -- what the loop over the values of the list at the node i knows where it has come to the node k, with the least fault acc
 pub record Answering (x t offsets : List ℕ) (count own i best n k acc : ℕ) (g : List ℕ) : Type 0 where

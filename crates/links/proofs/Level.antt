@@ -1,4 +1,4 @@
--- Is the type that was found one of the second level? Assumes nothing.
+-- Is the type that was found one of the second level?
 use Prim.Native.Nat.{ℕ, _+_, _-_, _≤_, _<_}
 use native.Mathlib.Omega.{arith}
 use mathlib.Core.Path.{_≡_, refl, sym, ap, _∙_}

@@ -1,4 +1,4 @@
--- Rule 15 of the values of a list, one after the other: the row of the object that lists them has the objects so far. Assumes nothing.
+-- Rule 15 of the values of a list, one after the other: the row of the object that lists them has the objects so far.
 use Prim.Native.Nat.{ℕ, _+_, _-_, _*_, _≤_, _<_}
 use native.Mathlib.Omega.{arith}
 use mathlib.Core.Path.{_≡_, refl, sym, ap, _∙_, subst}
@@ -12,7 +12,7 @@ use Rattle.grid.specs.Grid.{holds, Puts}
 use Rattle.grid.specs.Laws.{put-other-row}
 use Rattle.json.specs.Tree.{Json}
 use Rattle.json.specs.Table.{Sub}
-use Rattle.model.specs.Model.{numberOf}
+use Rattle.model.specs.Model.{objectNumber}
 use Rattle.nodes.specs.Access.{isStringValue, isArrayValue, textOf, elements, Member, firstNamed}
 use Rattle.everywhere.specs.Everywhere.{among}
 use Rattle.nodes.specs.Faults.{least}
@@ -36,27 +36,27 @@ use Rattle.links.proofs.Walk.{Walking, walk-begin, walk-turn, walk-done
 
 module _ {names : List (List ℕ)} {g : List ℕ} {row : ℕ} {u : List ℕ} {earlier : List (List ℕ)} (r : Row names g row earlier) where
   -- an ID that names no object
-  row-absent : length names ≤ numberOf names u → Row names g row (u ∷ earlier)
+  row-absent : length names ≤ objectNumber names u → Row names g row (u ∷ earlier)
   unfolding marks
-  row-absent h = record { is = λ n l. rw (ne-eqb (numberOf names u) n (λ e. omega arith)) (r .is n l) }
+  row-absent h = record { is = λ n l. rw (ne-eqb (objectNumber names u) n (λ e. omega arith)) (r .is n l) }
 
   -- one whose object is there already
-  row-again : holds g row (numberOf names u) ≡ true → Row names g row (u ∷ earlier)
+  row-again : holds g row (objectNumber names u) ≡ true → Row names g row (u ∷ earlier)
   unfolding marks
-  row-again h = record { is = λ n l. of n l (eqb (numberOf names u) n) refl }
+  row-again h = record { is = λ n l. of n l (eqb (objectNumber names u) n) refl }
     where
-      of : (n : ℕ) → n < length names → (b : Bool) → eqb (numberOf names u) n ≡ b → holds g row n ≡ (b || marks names earlier n)
-      of n l true e = ap (holds g row) (sym (eqb-true (numberOf names u) n e)) ∙ h
+      of : (n : ℕ) → n < length names → (b : Bool) → eqb (objectNumber names u) n ≡ b → holds g row n ≡ (b || marks names earlier n)
+      of n l true e = ap (holds g row) (sym (eqb-true (objectNumber names u) n e)) ∙ h
       of n l false e = r .is n l
 
   -- one whose object is put in
-  row-new : {g′ : List ℕ} {other : ℕ} → other ≡ numberOf names u → Puts g g′ row other → row * 128 + 128 ≤ length g → length names ≤ 1024 → Row names g′ row (u ∷ earlier)
+  row-new : {g′ : List ℕ} {other : ℕ} → other ≡ objectNumber names u → Puts g g′ row other → row * 128 + 128 ≤ length g → length names ≤ 1024 → Row names g′ row (u ∷ earlier)
   unfolding marks
-  row-new {g′} {other} q p h f = record { is = λ n l. p .has row n h (omega arith) ∙ rw (eq-eqb row row refl, q) (of n l (eqb n (numberOf names u)) refl) }
+  row-new {g′} {other} q p h f = record { is = λ n l. p .has row n h (omega arith) ∙ rw (eq-eqb row row refl, q) (of n l (eqb n (objectNumber names u)) refl) }
     where
-      of : (n : ℕ) → n < length names → (b : Bool) → eqb n (numberOf names u) ≡ b → (b || holds g row n) ≡ (eqb (numberOf names u) n || marks names earlier n)
-      of n l true e = rw (eq-eqb (numberOf names u) n (sym (eqb-true n (numberOf names u) e)))
-      of n l false e = rw (ne-eqb (numberOf names u) n (λ z. eqb-false n (numberOf names u) e (sym z))) (r .is n l)
+      of : (n : ℕ) → n < length names → (b : Bool) → eqb n (objectNumber names u) ≡ b → (b || holds g row n) ≡ (eqb (objectNumber names u) n || marks names earlier n)
+      of n l true e = rw (eq-eqb (objectNumber names u) n (sym (eqb-true n (objectNumber names u) e)))
+      of n l false e = rw (ne-eqb (objectNumber names u) n (λ z. eqb-false n (objectNumber names u) e (sym z))) (r .is n l)
 
 pub beside-same : (g : List ℕ) (row : ℕ) → Beside g g row
 beside-same g row = record { room = refl; others = λ a b r c n. refl }
@@ -116,7 +116,7 @@ module _ {x t offsets : List ℕ} {count row k : ℕ} {b : Bool} {g : List ℕ} 
       earlier-is : {ms : List Member} {earlier : List (List ℕ)} → Offsets x t ms offsets count → Row (namesOf ms) g row earlier → among earlier (textAt x t k) ≡ f
       earlier-is {ms} {earlier} o r =
           among-marks (namesOf ms) earlier (textAt x t k) (omega (arith, names-all o, d .is ms o))
-          ∙ (sym (r .is (numberOf (namesOf ms) (textAt x t k)) (omega (arith, names-all o, d .is ms o))) ∙ (ap (holds g row) (sym (d .is ms o)) ∙ sym i))
+          ∙ (sym (r .is (objectNumber (namesOf ms) (textAt x t k)) (omega (arith, names-all o, d .is ms o))) ∙ (ap (holds g row) (sym (d .is ms o)) ∙ sym i))
 
       -- it was listed before
       pub mark-again : {best r : ℕ} → f ≡ true → Gives (λ v. least best (unless false 15 v)) x t k r → MarkGives x t offsets count row k g g best r

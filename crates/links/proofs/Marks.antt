@@ -1,4 +1,4 @@
--- An ID is among some others if its object is one of those that they name. Assumes nothing.
+-- An ID is among some others if its object is one of those that they name.
 use Prim.Native.Nat.{ℕ, suc, _<_, _≤_}
 use native.Mathlib.Omega.{arith}
 use mathlib.Core.Path.{_≡_, refl, sym, ap, _∙_}
@@ -10,7 +10,7 @@ use lib.Dec.{eqb, ltb}
 use borrow.Author.Tests.{eq-eqb, ne-eqb, lt-ltb, le-ltb, ltb-true, ltb-false}
 use Rattle.utf8.specs.Utf8.{same}
 use Rattle.utf8.specs.Laws.{same-equal, same-refl, never}
-use Rattle.model.specs.Model.{numberOf}
+use Rattle.model.specs.Model.{objectNumber}
 use Rattle.nodes.specs.Access.{Member, nameOf, firstNamed}
 use Rattle.everywhere.specs.Everywhere.{among}
 use Rattle.shapes.specs.Checks.{isSome}
@@ -27,27 +27,27 @@ same-turn u w = of (same u w) (same w u) refl refl
     of false false p q = refl
 
 -- a number below the count is that of the ID
-number-hit : (names : List (List ℕ)) (u : List ℕ) → numberOf names u < length names → getD names (numberOf names u) [] ≡ u
-unfolding numberOf
+number-hit : (names : List (List ℕ)) (u : List ℕ) → objectNumber names u < length names → getD names (objectNumber names u) [] ≡ u
+unfolding objectNumber
 number-hit [] u h = absurd (omega arith)
 number-hit (i ∷ names) u h = of (same i u) refl (number-hit names u) h
   where
-    of : (b : Bool) → same i u ≡ b → (numberOf names u < length names → getD names (numberOf names u) [] ≡ u) → cond b 0 (suc (numberOf names u)) < length (i ∷ names) → getD (i ∷ names) (cond b 0 (suc (numberOf names u))) [] ≡ u
+    of : (b : Bool) → same i u ≡ b → (objectNumber names u < length names → getD names (objectNumber names u) [] ≡ u) → cond b 0 (suc (objectNumber names u)) < length (i ∷ names) → getD (i ∷ names) (cond b 0 (suc (objectNumber names u))) [] ≡ u
     of true e r l = same-equal i u e
     of false e r l = r (omega arith)
 
 -- two IDs are the same if they name the same object
-same-number : (names : List (List ℕ)) (u w : List ℕ) → numberOf names w < length names → same u w ≡ eqb (numberOf names u) (numberOf names w)
+same-number : (names : List (List ℕ)) (u w : List ℕ) → objectNumber names w < length names → same u w ≡ eqb (objectNumber names u) (objectNumber names w)
 same-number names u w h = of (same u w) refl
   where
-    of : (b : Bool) → same u w ≡ b → b ≡ eqb (numberOf names u) (numberOf names w)
-    of true e = sym (eq-eqb (numberOf names u) (numberOf names w) (ap (numberOf names) (same-equal u w e)))
-    of false e = sym (ne-eqb (numberOf names u) (numberOf names w) (λ q.
-        let k : getD names (numberOf names u) [] ≡ u = number-hit names u (rw q h) in
+    of : (b : Bool) → same u w ≡ b → b ≡ eqb (objectNumber names u) (objectNumber names w)
+    of true e = sym (eq-eqb (objectNumber names u) (objectNumber names w) (ap (objectNumber names) (same-equal u w e)))
+    of false e = sym (ne-eqb (objectNumber names u) (objectNumber names w) (λ q.
+        let k : getD names (objectNumber names u) [] ≡ u = number-hit names u (rw q h) in
         let z : w ≡ u = sym (number-hit names w h) ∙ (ap (λ (n : ℕ). getD names n []) (sym q) ∙ k) in
         never (same-refl u) (rw z at e)))
 
-pub among-marks : (names us : List (List ℕ)) (w : List ℕ) → numberOf names w < length names → among us w ≡ marks names us (numberOf names w)
+pub among-marks : (names us : List (List ℕ)) (w : List ℕ) → objectNumber names w < length names → among us w ≡ marks names us (objectNumber names w)
 unfolding among marks
 among-marks names [] w h = refl
 among-marks names (v ∷ us) w h = rw (same-number names v w h, among-marks names us w h)
@@ -60,22 +60,22 @@ ltb-suc a b = of (ltb a b) refl
     of false e = let l : b ≤ a = ltb-false a b e in le-ltb (suc a) (suc b) (omega arith)
 
 -- the object of an ID is there if its number is below the count
-pub some-number : (ms : List Member) (u : List ℕ) → isSome (firstNamed u ms) ≡ ltb (numberOf (map nameOf ms) u) (length ms)
-unfolding isSome firstNamed numberOf
+pub some-number : (ms : List Member) (u : List ℕ) → isSome (firstNamed u ms) ≡ ltb (objectNumber (map nameOf ms) u) (length ms)
+unfolding isSome firstNamed objectNumber
 some-number [] u = refl
 some-number (m ∷ ms) u = rw (same-turn u (nameOf m)) (of (same (nameOf m) u) (some-number ms u))
   where
-    of : (b : Bool) → isSome (firstNamed u ms) ≡ ltb (numberOf (map nameOf ms) u) (length ms) → isSome (cond b (some (m .1)) (firstNamed u ms)) ≡ ltb (cond b 0 (suc (numberOf (map nameOf ms) u))) (suc (length ms))
+    of : (b : Bool) → isSome (firstNamed u ms) ≡ ltb (objectNumber (map nameOf ms) u) (length ms) → isSome (cond b (some (m .1)) (firstNamed u ms)) ≡ ltb (cond b 0 (suc (objectNumber (map nameOf ms) u))) (suc (length ms))
     of true r = sym (lt-ltb 0 (suc (length ms)) (omega arith))
-    of false r = r ∙ sym (ltb-suc (numberOf (map nameOf ms) u) (length ms))
+    of false r = r ∙ sym (ltb-suc (objectNumber (map nameOf ms) u) (length ms))
 
 -- and it is the one of that number
-pub named-number : (ms : List Member) (d : Member) (u : List ℕ) → numberOf (map nameOf ms) u < length ms → firstNamed u ms ≡ some (getD ms (numberOf (map nameOf ms) u) d .1)
-unfolding firstNamed numberOf
+pub named-number : (ms : List Member) (d : Member) (u : List ℕ) → objectNumber (map nameOf ms) u < length ms → firstNamed u ms ≡ some (getD ms (objectNumber (map nameOf ms) u) d .1)
+unfolding firstNamed objectNumber
 named-number [] d u h = absurd (omega arith)
 named-number (m ∷ ms) d u h = rw (same-turn u (nameOf m)) (of (same (nameOf m) u) (named-number ms d u) h)
   where
-    of : (b : Bool) → (numberOf (map nameOf ms) u < length ms → firstNamed u ms ≡ some (getD ms (numberOf (map nameOf ms) u) d .1)) → cond b 0 (suc (numberOf (map nameOf ms) u)) < length (m ∷ ms)
-        → cond b (some (m .1)) (firstNamed u ms) ≡ some (getD (m ∷ ms) (cond b 0 (suc (numberOf (map nameOf ms) u))) d .1)
+    of : (b : Bool) → (objectNumber (map nameOf ms) u < length ms → firstNamed u ms ≡ some (getD ms (objectNumber (map nameOf ms) u) d .1)) → cond b 0 (suc (objectNumber (map nameOf ms) u)) < length (m ∷ ms)
+        → cond b (some (m .1)) (firstNamed u ms) ≡ some (getD (m ∷ ms) (cond b 0 (suc (objectNumber (map nameOf ms) u))) d .1)
     of true r l = refl
     of false r l = r (omega arith)

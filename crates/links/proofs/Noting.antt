@@ -1,4 +1,4 @@
--- Notes of where the lists of the objects stand. Assumes nothing.
+-- Notes of where the lists of the objects stand.
 use Prim.Native.Nat.{ℕ, zero, suc, _+_, _-_, _*_, _^_, _≤_, _<_}
 use Prim.Native.String.{String}
 use native.Mathlib.Omega.{arith}

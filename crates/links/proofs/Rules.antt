@@ -1,4 +1,4 @@
--- What the proofs of the functions over links use. Assumes nothing.
+-- What the proofs of the functions over links use.
 use Prim.Native.Nat.{ℕ, _+_, _*_, _<_, _≤_}
 use native.Mathlib.Omega.{arith}
 use mathlib.Core.Path.{_≡_}

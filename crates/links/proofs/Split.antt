@@ -1,4 +1,4 @@
--- The faults of links are those of rule 15, and after them those of rules 16 and 17. Assumes nothing.
+-- The faults of links are those of rule 15, and after them those of rules 16 and 17.
 use Prim.Native.Nat.{ℕ}
 use Prim.Native.String.{String}
 use mathlib.Core.Path.{_≡_, refl, sym, ap, _∙_}
@@ -12,7 +12,7 @@ use Rattle.nodes.specs.Laws.{least-++}
 use Rattle.shapes.specs.Checks.{unless}
 use Rattle.shapes.specs.Laws.{least-turn, unless-true}
 use Rattle.fields.specs.Fields.{typeText}
-use Rattle.links.specs.Links.{listedIn, idsAmong, link, linksFrom, hasParent, linksOf, linksOfEach}
+use Rattle.links.specs.Links.{listedIn, idsAmong, link, linksFrom, parentLink, linksOf, linksOfEach}
 use Rattle.links.specs.Passes.{absentAt, absent, openAt, openIn, absentOf, openOf, absentOfEach, openOfEach}
 
 -- four lists of faults, the two in the middle in the other order
@@ -50,7 +50,7 @@ split-object b ms m =
     let group = is "CityObjectGroup" (typeText (m .1)) in
     let C = linksFrom ms "parents" (nameOf m) group [] children in
     let P = linksFrom ms "children" (nameOf m) false [] parents in
-    let H = hasParent (m .1) in
+    let H = parentLink (m .1) in
     let A = absent ms [] children in
     let B = openIn ms "parents" (nameOf m) group children in
     let D = absent ms [] parents in

@@ -1,4 +1,4 @@
--- The objects one after the other: first rule 15, which fills the rows, then rules 16 and 17. Assumes nothing.
+-- The objects one after the other: first rule 15, which fills the rows, then rules 16 and 17.
 use Prim.Native.Nat.{ℕ, _+_, _*_, _≤_, _<_}
 use Prim.Native.String.{String}
 use native.Mathlib.Omega.{arith}
@@ -17,21 +17,21 @@ use Rattle.words.specs.Words.{objectWords, codeOf, is, isSecondLevel}
 use Rattle.grid.specs.Laws.{empty}
 use Rattle.json.specs.Tree.{Json}
 use Rattle.json.specs.Table.{Sub}
-use Rattle.model.specs.Model.{numberOf}
+use Rattle.model.specs.Model.{objectNumber}
 use Rattle.nodes.specs.Access.{nameOf, elements, Member, find}
 use Rattle.nodes.specs.Faults.{least}
 use Rattle.nodes.specs.Laws.{least-++}
 use Rattle.everywhere.specs.Parts.{textAt}
 use Rattle.nodes.specs.Says.{Seeks, Gives, GivesFound}
 use Rattle.nodes.specs.declared.Found.{Found}
-use Rattle.shapes.specs.Checks.{unless}
+use Rattle.shapes.specs.Checks.{unless, isEmpty}
 use Rattle.shapes.specs.Laws.{unless-true}
 use Rattle.fields.specs.Fields.{textIn, countIn, typeText, objectsOf}
 use Rattle.fields.specs.declared.Index.{Index}
 use Rattle.ids.specs.Says.{Offsets, Objects, namesOf}
 use Rattle.ids.proofs.Rules.{nobody, name-text}
 use Rattle.ids.proofs.Chains.{names-all, name-is}
-use Rattle.links.specs.Links.{elementsIn, listedIn, isEmpty, hasParent, linkFaults}
+use Rattle.links.specs.Links.{elementsIn, listedIn, parentLink, linkFaults}
 use Rattle.links.specs.Passes.{absent, openIn, absentOf, openOf, absentOfEach, openOfEach, marks}
 use Rattle.links.specs.Says.{Numbered, Alone, seen, Row, Beside, MarksGive, RowsTo, ObjectMarks, AllMarks, Filled, OpensGive, ChildrenGive, ObjectOpens, AllOpens, Empty, AllGive, Ready, LinksGive}
 use Rattle.links.proofs.Split.{split-objects}
@@ -145,12 +145,12 @@ empty-count (some v) = of (elements v)
     of [] = refl
     of (a ∷ l) = sym (ne-eqb (length (a ∷ l)) 0 (λ e. omega arith))
 
-parent-parts : (v : Json) → hasParent v ≡ unless (not (isSecondLevel (codeOf objectWords (typeText v)) && isEmpty (elementsIn (find "parents" v)))) 16 v
-unfolding hasParent listedIn
+parent-parts : (v : Json) → parentLink v ≡ unless (not (isSecondLevel (codeOf objectWords (typeText v)) && isEmpty (elementsIn (find "parents" v)))) 16 v
+unfolding parentLink listedIn
 parent-parts v = refl
 
 -- rule 16 by the level of the object's type and the count of its parents
-parent-by : (best : ℕ) (v : Json) (second : Bool) (count : ℕ) → second ≡ isSecondLevel (codeOf objectWords (typeText v)) → count ≡ countIn (find "parents" v) → least best (unless (not (second && eqb count 0)) 16 v) ≡ least best (hasParent v)
+parent-by : (best : ℕ) (v : Json) (second : Bool) (count : ℕ) → second ≡ isSecondLevel (codeOf objectWords (typeText v)) → count ≡ countIn (find "parents" v) → least best (unless (not (second && eqb count 0)) 16 v) ≡ least best (parentLink v)
 parent-by best v second count c n = rw (parent-parts v, ← c, empty-count (find "parents" v), ← n)
 
 module _ {x t : List ℕ} {i : ℕ} {parents : Found} (best : ℕ) {count : ℕ} (p : Seeks (λ v. find "parents" v) x t i parents) (n : GivesFound countIn x t parents count) where
@@ -160,10 +160,10 @@ module _ {x t : List ℕ} {i : ℕ} {parents : Found} (best : ℕ) {count : ℕ}
   kept : (second : Bool) → (count ≡ 0 → ⊥) → not (second && eqb count 0) ≡ true
   kept second h = rw (ne-eqb count 0 h, and-false second)
 
-  pub parent-some : (count ≡ 0 → ⊥) → Gives (λ v. least best (hasParent v)) x t i best
+  pub parent-some : (count ≡ 0 → ⊥) → Gives (λ v. least best (parentLink v)) x t i best
   parent-some h = record { is = λ v s. let b = isSecondLevel (codeOf objectWords (typeText v)) in unless-true best 16 v (kept b h) ∙ parent-by best v b count refl (count-is s) }
 
-  pub parent-told : {kind : Found} {b : Bool} {r : ℕ} → count ≡ 0 → Seeks (λ v. find "type" v) x t i kind → GivesFound (λ o. isSecondLevel (codeOf objectWords (textIn o))) x t kind b → Gives (λ v. least best (unless (not b) 16 v)) x t i r → Gives (λ v. least best (hasParent v)) x t i r
+  pub parent-told : {kind : Found} {b : Bool} {r : ℕ} → count ≡ 0 → Seeks (λ v. find "type" v) x t i kind → GivesFound (λ o. isSecondLevel (codeOf objectWords (textIn o))) x t kind b → Gives (λ v. least best (unless (not b) 16 v)) x t i r → Gives (λ v. least best (parentLink v)) x t i r
   unfolding typeText
   parent-told {b = b} z y g u = record { is = λ v s. u .is v s ∙ (ap (λ c. least best (unless (not c) 16 v)) (sym (and-true b)) ∙ parent-by best v b 0 (g .is (find "type" v) (y .finds v s)) (sym z ∙ count-is s)) }
 
@@ -175,25 +175,25 @@ module _ {x t : List ℕ} {i : ℕ} {kind : Found} (s : Seeks (λ v. find "type"
   unfolding typeText is
   type-is word g = record { is = λ v u. g .is (find "type" v) (s .finds v u) }
 
-open-parts : (ms : List Member) (m : Member) → openOf ms m ≡ ((openIn ms "parents" (nameOf m) (is "CityObjectGroup" (typeText (m .1))) (elementsIn (find "children" (m .1))) ++ openIn ms "children" (nameOf m) false (elementsIn (find "parents" (m .1)))) ++ hasParent (m .1))
+open-parts : (ms : List Member) (m : Member) → openOf ms m ≡ ((openIn ms "parents" (nameOf m) (is "CityObjectGroup" (typeText (m .1))) (elementsIn (find "children" (m .1))) ++ openIn ms "children" (nameOf m) false (elementsIn (find "parents" (m .1)))) ++ parentLink (m .1))
 unfolding openOf listedIn
 open-parts ms m = refl
 
 pub object-opens : {x t offsets : List ℕ} {count k best a b r : ℕ} {c p : List ℕ} {below above : Found}
     → Seeks (λ v. find "children" v) x t (getD offsets k 0 + 3) below → Seeks (λ v. find "parents" v) x t (getD offsets k 0 + 3) above
     → Alone x t offsets count → Filled x t offsets count c p → k < count
-    → ChildrenGive x t offsets count k (getD offsets k 0 + 3) below p best a → OpensGive x t offsets count k false above c a b → Gives (λ v. least b (hasParent v)) x t (getD offsets k 0 + 3) r → ObjectOpens x t offsets count k best r
+    → ChildrenGive x t offsets count k (getD offsets k 0 + 3) below p best a → OpensGive x t offsets count k false above c a b → Gives (λ v. least b (parentLink v)) x t (getD offsets k 0 + 3) r → ObjectOpens x t offsets count k best r
 object-opens {x} {t} {offsets} {k = k} {best} {a} {b} {r} u w n f l A B h = record {
   is = λ ms o d.
       let m = getD ms k d in
       let z = o .each k d l .value in
       let i : nameOf m ≡ textAt x t (getD offsets k 0) = name-text (o .each k d l) in
-      let q : k ≡ numberOf (namesOf ms) (nameOf m) = sym (n .is ms o k l) ∙ ap (numberOf (namesOf ms)) (name-is o l ∙ sym i) in
+      let q : k ≡ objectNumber (namesOf ms) (nameOf m) = sym (n .is ms o k l) ∙ ap (objectNumber (namesOf ms)) (name-is o l ∙ sym i) in
       let C = openIn ms "parents" (nameOf m) (is "CityObjectGroup" (typeText (m .1))) (elementsIn (find "children" (m .1))) in
       let D = openIn ms "children" (nameOf m) false (elementsIn (find "parents" (m .1))) in
       let a′ : a ≡ least best C = A .is _ z .is ms o "parents" (f .parents ms o) (nameOf m) q .is _ (u .finds _ z) in
       let b′ : b ≡ least a D = B .is ms o "children" (f .children ms o) (nameOf m) q .is _ (w .finds _ z) in
-      let e : r ≡ least best ((C ++ D) ++ hasParent (m .1)) = h .is _ z ∙ (ap (λ (v : ℕ). least v (hasParent (m .1))) (b′ ∙ (ap (λ (v : ℕ). least v D) a′ ∙ sym (least-++ best C D))) ∙ sym (least-++ best (C ++ D) (hasParent (m .1)))) in
+      let e : r ≡ least best ((C ++ D) ++ parentLink (m .1)) = h .is _ z ∙ (ap (λ (v : ℕ). least v (parentLink (m .1))) (b′ ∙ (ap (λ (v : ℕ). least v D) a′ ∙ sym (least-++ best C D))) ∙ sym (least-++ best (C ++ D) (parentLink (m .1)))) in
       rw (open-parts ms m) e;
 }
 

@@ -1,4 +1,4 @@
--- A loop over the values of a list, whatever it gathers: P all left says what holds of the list and of what is left of it. Assumes nothing.
+-- A loop over the values of a list, whatever it gathers: P all left says what holds of the list and of what is left of it.
 use Prim.Native.Nat.{ℕ, _+_, _-_, _≤_, _<_}
 use native.Mathlib.Omega.{arith}
 use mathlib.Core.Path.{_≡_, sym, _∙_}

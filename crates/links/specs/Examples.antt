@@ -1,11 +1,11 @@
--- Rules 15 to 17 of document 01 decided by computation: the least fault of the links in the tree of a small text. Assumes nothing.
+-- Rules 15 to 17 of document 01 decided by computation: the least fault of the links in the tree of a small text.
 use Prim.Native.Nat.{ℕ}
 use mathlib.Core.Path.{_≡_, refl}
 use mathlib.Core.List.{List}
 use Rattle.utf8.specs.Ascii.{ascii, isDigit}
 use Rattle.json.specs.Tree.{_◂_, with}
 use Rattle.json.specs.Machine.{Outcome, reads, bad, tooDeep, read, step, wantStep, gotStep, nextStep, nameStep, mantStep, noughtStep, isBlank, isHex, isEscape}
-use Rattle.nodes.specs.Faults.{fault, least, none}
+use Rattle.nodes.specs.Faults.{fault, least, noFault}
 use Rattle.links.specs.Links.{linkFaults}
 
 -- the least fault of the links in the tree of a text; 0 of a text that has no tree
@@ -14,7 +14,7 @@ unfolding read linkFaults least fault ascii step wantStep gotStep nextStep nameS
 judged text = in-tree (read text)
   where
     in-tree : Outcome → ℕ
-    in-tree (reads v) = least none (linkFaults v)
+    in-tree (reads v) = least noFault (linkFaults v)
     in-tree (bad n) = 0
     in-tree (tooDeep n) = 0
 
@@ -46,7 +46,7 @@ unfolding judged
 group-child-absent = refl
 
 -- one ID in two lists is not listed twice in one
-both-lists : judged (ascii "{\"CityObjects\":{\"a\":{\"type\":\"Building\",\"children\":[\"b\"],\"parents\":[\"b\"]},\"b\":{\"type\":\"Building\",\"children\":[\"a\"],\"parents\":[\"a\"]}}}") ≡ none
+both-lists : judged (ascii "{\"CityObjects\":{\"a\":{\"type\":\"Building\",\"children\":[\"b\"],\"parents\":[\"b\"]},\"b\":{\"type\":\"Building\",\"children\":[\"a\"],\"parents\":[\"a\"]}}}") ≡ noFault
 unfolding judged
 both-lists = refl
 
@@ -68,7 +68,7 @@ unfolding judged
 first-of-second-level = refl
 
 -- the last code of the first level, 16, needs no parent
-last-of-first-level : judged (ascii "{\"CityObjects\":{\"b\":{\"type\":\"Waterway\",\"parents\":[]}}}") ≡ none
+last-of-first-level : judged (ascii "{\"CityObjects\":{\"b\":{\"type\":\"Waterway\",\"parents\":[]}}}") ≡ noFault
 unfolding judged
 last-of-first-level = refl
 
@@ -85,7 +85,7 @@ unfolding judged
 parent-one-sided = refl
 
 -- a group's one-sided child is excused
-group-child : judged (ascii "{\"CityObjects\":{\"g\":{\"type\":\"CityObjectGroup\",\"children\":[\"b\"]},\"b\":{\"type\":\"Building\"}}}") ≡ none
+group-child : judged (ascii "{\"CityObjects\":{\"g\":{\"type\":\"CityObjectGroup\",\"children\":[\"b\"]},\"b\":{\"type\":\"Building\"}}}") ≡ noFault
 unfolding judged
 group-child = refl
 
@@ -100,6 +100,6 @@ unfolding judged
 group-listed = refl
 
 -- a link with both sides
-two-sided : judged (ascii "{\"CityObjects\":{\"a\":{\"type\":\"Building\",\"children\":[\"b\"]},\"b\":{\"type\":\"BuildingPart\",\"parents\":[\"a\"]}}}") ≡ none
+two-sided : judged (ascii "{\"CityObjects\":{\"a\":{\"type\":\"Building\",\"children\":[\"b\"]},\"b\":{\"type\":\"BuildingPart\",\"parents\":[\"a\"]}}}") ≡ noFault
 unfolding judged
 two-sided = refl

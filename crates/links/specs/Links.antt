@@ -1,4 +1,4 @@
--- Rules 15 to 17 of document 01, over the IDs of the city objects as decoded: all places at which a tree breaks them. Assumes nothing: these are definitions.
+-- Rules 15 to 17 of document 01, over the IDs of the city objects as decoded: all places at which a tree breaks them.
 use Prim.Native.Nat.{ℕ}
 use Prim.Native.String.{String}
 use mathlib.Core.Bool.{Bool, true, false, cond, not, _&&_, _||_}
@@ -9,7 +9,7 @@ use Rattle.words.specs.Words.{objectWords, codeOf, is, isSecondLevel}
 use Rattle.json.specs.Tree.{Json}
 use Rattle.nodes.specs.Access.{isStringValue, elements, Member, nameOf, textOf, find, firstNamed}
 use Rattle.everywhere.specs.Everywhere.{among}
-use Rattle.shapes.specs.Checks.{unless, isSome}
+use Rattle.shapes.specs.Checks.{unless, isSome, isEmpty}
 use Rattle.fields.specs.Fields.{typeText, objectsOf}
 
 -- what an object lists under a name
@@ -51,22 +51,18 @@ linksFrom objects back id excused earlier (s ∷ ss) =
     cond (isStringValue s) (link objects back id excused earlier s) []
     ++ linksFrom objects back id excused (idsAmong (s ∷ []) ++ earlier) ss
 
-unfoldable pub isEmpty : List Json → Bool
-isEmpty [] = true
-isEmpty (v ∷ vs) = false
-
 -- 16: a second-level object with no parent listed, at the object
-unfoldable pub hasParent : Json → List ℕ
+unfoldable pub parentLink : Json → List ℕ
 unfolding unless isSecondLevel codeOf objectWords typeText isEmpty listedIn
-hasParent o = unless (not (isSecondLevel (codeOf objectWords (typeText o)) && isEmpty (listedIn "parents" o))) 16 o
+parentLink o = unless (not (isSecondLevel (codeOf objectWords (typeText o)) && isEmpty (listedIn "parents" o))) 16 o
 
 -- "A listed parent must list the object as child. A listed child must list the object as parent, unless the object is a `CityObjectGroup`."
 unfoldable pub linksOf : List Member → Member → List ℕ
-unfolding linksFrom listedIn hasParent is typeText nameOf
+unfolding linksFrom listedIn parentLink is typeText nameOf
 linksOf objects m =
     linksFrom objects "parents" (nameOf m) (is "CityObjectGroup" (typeText (m .1))) [] (listedIn "children" (m .1))
     ++ linksFrom objects "children" (nameOf m) false [] (listedIn "parents" (m .1))
-    ++ hasParent (m .1)
+    ++ parentLink (m .1)
 
 unfoldable pub linksOfEach : List Member → List Member → List ℕ
 unfolding linksOf

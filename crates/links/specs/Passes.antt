@@ -1,5 +1,5 @@
 -- The faults of links in the order in which they are found: those of rule 15 first, then those of rules 16 and 17. Only contracts of private functions cite them: that together they are those of Links is `split-objects` in the proofs.
--- Assumes nothing: these are definitions.
+--
 use Prim.Native.Nat.{ℕ}
 use Prim.Native.String.{String}
 use mathlib.Core.Bool.{Bool, false, cond, not, _&&_, _||_}
@@ -7,12 +7,12 @@ use mathlib.Core.List.{List, [], _∷_, _++_}
 use lib.Dec.{eqb}
 use Rattle.words.specs.Words.{is}
 use Rattle.json.specs.Tree.{Json}
-use Rattle.model.specs.Model.{numberOf}
+use Rattle.model.specs.Model.{objectNumber}
 use Rattle.nodes.specs.Access.{isStringValue, Member, nameOf, textOf, firstNamed}
 use Rattle.everywhere.specs.Everywhere.{among}
 use Rattle.shapes.specs.Checks.{unless, isSome}
 use Rattle.fields.specs.Fields.{typeText}
-use Rattle.links.specs.Links.{listedIn, idsAmong, idsIn, hasParent}
+use Rattle.links.specs.Links.{listedIn, idsAmong, idsIn, parentLink}
 
 -- rule 15 of one value of a list, after those that were listed earlier
 unfoldable pub absentAt : List Member → List (List ℕ) → Json → List ℕ
@@ -40,7 +40,7 @@ unfoldable pub openOf : List Member → Member → List ℕ
 openOf objects m =
     (openIn objects "parents" (nameOf m) (is "CityObjectGroup" (typeText (m .1))) (listedIn "children" (m .1))
     ++ openIn objects "children" (nameOf m) false (listedIn "parents" (m .1)))
-    ++ hasParent (m .1)
+    ++ parentLink (m .1)
 
 -- of each of several objects
 unfoldable pub absentOfEach : List Member → List Member → List ℕ
@@ -54,4 +54,4 @@ openOfEach objects (m ∷ ms) = openOf objects m ++ openOfEach objects ms
 -- does one of these IDs name the object of number n, where `names` are the IDs of all?
 unfoldable pub marks : List (List ℕ) → List (List ℕ) → ℕ → Bool
 marks names [] n = false
-marks names (u ∷ us) n = eqb (numberOf names u) n || marks names us n
+marks names (u ∷ us) n = eqb (objectNumber names u) n || marks names us n

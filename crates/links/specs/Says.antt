@@ -1,4 +1,4 @@
--- What the functions over links ask and tell. Assumes nothing: these are definitions.
+-- What the functions over links ask and tell.
 use mathlib.Core.Path.{_≡_}
 use mathlib.Core.Bool.{Bool, false}
 use mathlib.Core.List.{List, [], _∷_, _++_}
@@ -11,7 +11,7 @@ use Rattle.words.specs.Words as word
 use Rattle.grid.specs.Grid.{holds}
 use Rattle.json.specs.Tree.{Json}
 use Rattle.json.specs.Table.{Sub}
-use Rattle.model.specs.Model.{numberOf}
+use Rattle.model.specs.Model.{objectNumber}
 use Rattle.nodes.specs.Access.{Member, find}
 use Rattle.nodes.specs.Faults.{least}
 use Rattle.everywhere.specs.Parts.{textAt}
@@ -33,11 +33,11 @@ pub record Numbered (x t offsets : List ℕ) (count : ℕ) (heads nexts : List �
 -- what the memo has at q is 0, or one more than the number of the object whose ID is the text at the node 3 q
 pub record Kept (x t offsets : List ℕ) (count : ℕ) (memo : List ℕ) : Type 0 where
   pub room : length memo ≡ 32784
-  pub is : (ms : List Member) → Offsets x t ms offsets count → (q : ℕ) → (getD memo q 0 ≡ 0) ⊎ (getD memo q 0 ≡ numberOf (namesOf ms) (textAt x t (3 * q)) + 1)
+  pub is : (ms : List Member) → Offsets x t ms offsets count → (q : ℕ) → (getD memo q 0 ≡ 0) ⊎ (getD memo q 0 ≡ objectNumber (namesOf ms) (textAt x t (3 * q)) + 1)
 
 -- no two objects have the same ID: the number of each ID is its place
 pub record Alone (x t offsets : List ℕ) (count : ℕ) : Type 0 where
-  pub is : (ms : List Member) → Offsets x t ms offsets count → (k : ℕ) → k < count → numberOf (namesOf ms) (getD (namesOf ms) k []) ≡ k
+  pub is : (ms : List Member) → Offsets x t ms offsets count → (k : ℕ) → k < count → objectNumber (namesOf ms) (getD (namesOf ms) k []) ≡ k
 
 -- the IDs of a list of values and those that were listed before, the last first
 unfoldable pub seen : List (List ℕ) → List Json → List (List ℕ)
@@ -113,12 +113,12 @@ pub record Filled (x t offsets : List ℕ) (count : ℕ) (c p : List ℕ) : Type
 
 -- r is the least of best and of the fault of rule 17 of the value at the node k, of a list of the object of number `own`, where g has what all objects list under `back`
 pub record OpenGives (x t offsets : List ℕ) (count own k : ℕ) (g : List ℕ) (best r : ℕ) : Type 0 where
-  pub is : (ms : List Member) → Offsets x t ms offsets count → (back : String) → RowsTo ms back g count → (id : List ℕ) → own ≡ numberOf (namesOf ms) id
+  pub is : (ms : List Member) → Offsets x t ms offsets count → (back : String) → RowsTo ms back g count → (id : List ℕ) → own ≡ objectNumber (namesOf ms) id
       → Gives (λ s. least best (openAt ms back id false s)) x t k r
 
 -- the same of the list that was found, unless it is excused
 pub record OpensGive (x t offsets : List ℕ) (count own : ℕ) (excused : Bool) (found : Found) (g : List ℕ) (best r : ℕ) : Type 0 where
-  pub is : (ms : List Member) → Offsets x t ms offsets count → (back : String) → RowsTo ms back g count → (id : List ℕ) → own ≡ numberOf (namesOf ms) id
+  pub is : (ms : List Member) → Offsets x t ms offsets count → (back : String) → RowsTo ms back g count → (id : List ℕ) → own ≡ objectNumber (namesOf ms) id
       → GivesFound (λ o. least best (openIn ms back id excused (elementsIn o))) x t found r
 
 -- the same of the children that were found of the object at the node i, which are excused if it is a group
@@ -149,7 +149,7 @@ pub record Ready (x t : List ℕ) (index : Index) : Type 0 where
   pub few : length (objectsOf value) ≤ 1024
   pub indexed : (v : Json) → Sub x t 0 v → Indexed x t (objectsOf v) index
   -- no two city objects have the same ID (rule 6)
-  pub alone : (k : ℕ) → k < length (objectsOf value) → numberOf (namesOf (objectsOf value)) (getD (namesOf (objectsOf value)) k []) ≡ k
+  pub alone : (k : ℕ) → k < length (objectsOf value) → objectNumber (namesOf (objectsOf value)) (getD (namesOf (objectsOf value)) k []) ≡ k
 
 -- r is the least of best and the faults of the links of the value that stands at the node 0, if it has at most 1,024 city objects
 pub record LinksGive (x t : List ℕ) (best r : ℕ) : Type 0 where

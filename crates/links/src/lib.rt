@@ -14,7 +14,7 @@ ghost use Rattle.nodes.specs.Says.{Node, Sought, Seeks, Gives, GivesFound};
 ghost use Rattle.nodes.specs.declared.Found.the-variants.{At};
 ghost use Rattle.fields.specs.Fields.{textIn, typeText};
 ghost use Rattle.ids.specs.Says.{TextNode, Objects, Numbers};
-ghost use Rattle.links.specs.Links.{hasParent};
+ghost use Rattle.links.specs.Links.{parentLink};
 ghost use Rattle.links.specs.Says.{Numbered, Kept, Alone, MarkGives, MarksGive, toldOf, Below, Notes, ObjectMarks, AllMarks, Filled, OpenGives, OpensGive, ChildrenGive, ObjectOpens, AllOpens, Empty, AllGive, Ready, LinksGive};
 
 // A number of the memo, as a number of full width.
@@ -474,7 +474,7 @@ fn is_second_level(text: &[u8], table: &[u32], found: Found) -> bool
 // Rule 16: a second-level object lists a parent.
 fn has_parent(text: &[u8], table: &[u32], i: usize, parents: Found, best: u32) -> u32
     requires { ⌜ (Node (now text) (now table) i) × (Seeks (λ v. access.find "parents" v) (now text) (now table) i parents) ⌝ }
-    ensures { λ r. ⌜ Gives (λ v. least best (hasParent v)) (now (text .entry)) (now (table .entry)) i r ⌝ }
+    ensures { λ r. ⌜ Gives (λ v. least best (parentLink v)) (now (text .entry)) (now (table .entry)) i r ⌝ }
 {
     let count = fields::count_found(text, table, parents);
     if count != 0 {

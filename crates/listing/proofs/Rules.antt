@@ -1,4 +1,4 @@
--- What the functions of the crate leave: bytes copied, a number's digits, a line. Assumes nothing.
+-- What the functions of the crate leave: bytes copied, a number's digits, a line.
 use mathlib.Core.Path.{_≡_, refl, sym, ap, _∙_}
 use mathlib.Core.Bool.{Bool, true, false}
 use mathlib.Core.List.{List, [], _∷_, _++_}
@@ -15,7 +15,7 @@ use Rattle.io.specs.Counts.{Counts}
 use Rattle.io.specs.Digits.{glyph, digits, Fewest}
 use Rattle.utf8.specs.Ascii.{ascii}
 use Rattle.sheets.specs.Laid.{answer, laid, refused}
-use Rattle.refusals.specs.Refusals.{numberOf}
+use Rattle.refusals.specs.Refusals.{ruleNumber}
 use Rattle.refusals.specs.declared.Refusal.{Refusal}
 use Rattle.laying.specs.declared.Answer.{Answer}
 use Rattle.laying.specs.declared.Answer.the-variants.{Laid, Refused}
@@ -148,7 +148,7 @@ module _ {a : Answer} {d₀ d : List ℕ} {r : ℕ} where
   unfolding answered
   line-laid e l = rw e l
 
-  pub line-refused : {f : Refusal} {k : ℕ} → a ≡ Refused f → k ≡ numberOf (f .rule) → Lists (lineOf (refused k (f .place))) d₀ d r → Lists (lineOf (answered a)) d₀ d r
+  pub line-refused : {f : Refusal} {k : ℕ} → a ≡ Refused f → k ≡ ruleNumber (f .rule) → Lists (lineOf (refused k (f .place))) d₀ d r → Lists (lineOf (answered a)) d₀ d r
   unfolding answered
   line-refused e q l = rw (e, ← q) l
 

@@ -1,4 +1,4 @@
--- The decimal digits of a number write its value. Assumes nothing.
+-- The decimal digits of a number write its value.
 use mathlib.Core.Path.{_≡_, refl, _∙_}
 use mathlib.Core.Bool.{Bool, true, false}
 use mathlib.Core.List.{List, [], _∷_, _++_}

@@ -1,4 +1,4 @@
--- The line that the lister prints for an answer of lay (document 01, "Sample readings"). Assumes nothing: these are definitions.
+-- The line that the lister prints for an answer of lay (document 01, "Sample readings").
 use Prim.Native.Nat.{ℕ, zero, suc, _+_, _/_, _%_, _≤_}
 use mathlib.Core.Path.{_≡_}
 use mathlib.Core.Bool.{true, false}

@@ -12,9 +12,9 @@ use Rattle.model.specs.Good.{Both}
 use Rattle.words.specs.Words.{codeOf, geometryWords, objectWords}
 use Rattle.numerals.specs.Numerals.{decimal, wholeOf}
 use Rattle.strings.specs.Strings.{decode}
-use Rattle.json.specs.Tree.{Json, null, bool, num, str, arr, obj, Items, none, _▸_, Members, empty, member}
+use Rattle.json.specs.Tree.{Json, null, bool, num, str, arr, obj, Items, noItems, _▸_, Members, empty, member}
 use Rattle.nodes.specs.Access.{Member, listed, pairs, elements, members, nameOf, textOf, firstNamed, find}
-use Rattle.model.specs.Read.{get, orNull, numberOf, zeroIfNone, decimalOf, integerOf, natural, indexOf, valueOf, threeOf, nestOf, lodOf, surfaceNamed, surfaceOf, semanticsOf, geometryOf, objectOf, modelOf}
+use Rattle.model.specs.Read.{get, orNull, maybeDecimal, zeroIfNone, decimalOf, integerOf, natural, indexOf, valueOf, threeOf, nestOf, lodOf, surfaceNamed, surfaceOf, semanticsOf, geometryOf, objectOf, modelOf}
 
 -- ---- the definition
 
@@ -29,8 +29,8 @@ unfoldable mutual
   Same (obj p e ms) k = (q f : ℕ) × (ns : Members) × (k ≡ obj q f ns) × (length (pairs ms) ≡ length (pairs ns)) × SameIn ms (pairs ns)
 
   pub SameAll : Items → List Json → Type 0
-  SameAll none [] = Unit {0}
-  SameAll none (k ∷ l) = ⊥
+  SameAll noItems [] = Unit {0}
+  SameAll noItems (k ∷ l) = ⊥
   SameAll (j ▸ v) [] = ⊥
   SameAll (j ▸ v) (k ∷ l) = Same j k × SameAll v l
 
@@ -99,19 +99,19 @@ same-text (str p e raw) k s = s .4 ∙ sym (ap textOf (s .3))
 same-text (arr p e vs) k s = sym (ap textOf (s .3))
 same-text (obj p e ms) k s = sym (ap textOf (s .3))
 
-same-number : (j k : Json) → Same j k → numberOf j ≡ numberOf k
-unfolding Same numberOf
-same-number (null p e) k s = sym (ap numberOf (s .2))
-same-number (bool p e b) k s = sym (ap numberOf (s .2))
-same-number (num p e raw) k s = ap some (s .4) ∙ sym (ap numberOf (s .3))
-same-number (str p e raw) k s = sym (ap numberOf (s .3))
-same-number (arr p e vs) k s = sym (ap numberOf (s .3))
-same-number (obj p e ms) k s = sym (ap numberOf (s .3))
+same-number : (j k : Json) → Same j k → maybeDecimal j ≡ maybeDecimal k
+unfolding Same maybeDecimal
+same-number (null p e) k s = sym (ap maybeDecimal (s .2))
+same-number (bool p e b) k s = sym (ap maybeDecimal (s .2))
+same-number (num p e raw) k s = ap some (s .4) ∙ sym (ap maybeDecimal (s .3))
+same-number (str p e raw) k s = sym (ap maybeDecimal (s .3))
+same-number (arr p e vs) k s = sym (ap maybeDecimal (s .3))
+same-number (obj p e ms) k s = sym (ap maybeDecimal (s .3))
 
 same-all : (v : Items) (l : List Json) → SameAll v l → Both Same (listed v) l
 unfolding Same listed
-same-all none [] s = tt
-same-all none (k ∷ l) s = s
+same-all noItems [] s = tt
+same-all noItems (k ∷ l) s = s
 same-all (j ▸ v) [] s = s
 same-all (j ▸ v) (k ∷ l) s = (s .0, same-all v l (s .1))
 

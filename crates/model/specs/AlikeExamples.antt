@@ -9,12 +9,12 @@ use Rattle.utf8.specs.Ascii.{ascii, isDigit}
 use Rattle.utf8.specs.Utf8.{same}
 use Rattle.utf8.specs.Laws.{never, same-refl}
 use Rattle.strings.specs.Strings.{decode}
-use Rattle.numerals.specs.Numerals.{decimal, timesTen}
+use Rattle.numerals.specs.Numerals.{decimal, wholeOf}
 use Rattle.json.specs.Tree.{Json, _◂_, with}
 use Rattle.json.specs.Machine.{treeOf, step, wantStep, gotStep, nextStep, nameStep, mantStep, noughtStep, isBlank, isHex, isEscape}
 use Rattle.nodes.specs.Access.{listed, elements, members, textOf, find}
 use Rattle.model.specs.Model.{Three}
-use Rattle.model.specs.Read.{get, orNull, numberOf, zeroIfNone, decimalOf, integerOf, natural, threeOf, modelOf}
+use Rattle.model.specs.Read.{get, orNull, maybeDecimal, zeroIfNone, decimalOf, integerOf, natural, threeOf, modelOf}
 use Rattle.model.specs.Alike.{Same, Agree, surfaceShape, semanticsShape, geometryShape, objectShape, transformShape, rootShape, Alike, same-text, alike-same-model}
 
 -- ---- the texts
@@ -32,19 +32,19 @@ bare-respelled =
     ++ ascii "\"transform\":{\"translate\":[0,-0,0e9],\"scale\":[1,10e-1,0.01E+2]},\"version\":\"2.0\",\"ty\\u0070e\":\"CityJSON\"}"
 
 -- a building and its part
-unfoldable pub town : List ℕ
+unfoldable pub building : List ℕ
 unfolding ascii
-town =
+building =
     ascii "{\"type\":\"CityJSON\",\"version\":\"2.0\",\"metadata\":{},\"transform\":{\"scale\":[0.001,0.001,0.001],\"translate\":[0,10,-5]},"
     ++ ascii "\"CityObjects\":{\"house\":{\"type\":\"Building\",\"children\":[\"part\"],\"attributes\":{\"height\":3}},"
     ++ ascii "\"part\":{\"type\":\"BuildingPart\",\"parents\":[\"house\"],\"geometry\":[{\"type\":\"MultiSurface\",\"lod\":\"2.1\","
     ++ ascii "\"boundaries\":[[[0,1,2]],[[2,1,0]]],\"semantics\":{\"surfaces\":[{\"type\":\"RoofSurface\",\"+slope\":1}],\"values\":[0,null]}}]}},"
     ++ ascii "\"vertices\":[[0,0,0],[1,0,0],[0,1,0]]}"
 
--- the same town: the objects in the same order, other members in another; escapes in names and strings; numbers by value; other unexamined members
-unfoldable pub town-respelled : List ℕ
+-- the same city model: the objects in the same order, other members in another; escapes in names and strings; numbers by value; other unexamined members
+unfoldable pub building-respelled : List ℕ
 unfolding ascii
-town-respelled =
+building-respelled =
     ascii "{\"vertices\":[[0,0,0],[1,0,-0],[0,1,0]],\"CityObjects\":{\"h\\u006fuse\":{\"children\":[\"p\\u0061rt\"],\"ty\\u0070e\":\"\\u0042uilding\"},"
     ++ ascii "\"part\":{\"attributes\":{},\"geometry\":[{\"+colour\":[],\"semantics\":{\"values\":[0,null],\"surfaces\":[{\"type\":\"\\u0052oofSurface\"}]},"
     ++ ascii "\"boundaries\":[[[0,1,2]],[[2,1,0]]],\"lod\":\"2\\u002e1\",\"type\":\"MultiSurface\"}],\"parents\":[\"house\"],\"type\":\"BuildingPart\"}},"
@@ -72,9 +72,9 @@ bare-alike =
     & tt
     & (_, _, _, refl, tt) & tt
 
-pub town-alike : Alike (treeOf town) (treeOf town-respelled)
-unfolding Alike Agree Same rootShape transformShape objectShape geometryShape semanticsShape surfaceShape town town-respelled reading
-town-alike =
+pub building-alike : Alike (treeOf building) (treeOf building-respelled)
+unfolding Alike Agree Same rootShape transformShape objectShape geometryShape semanticsShape surfaceShape building building-respelled reading
+building-alike =
     (_, _, _, refl, refl) & (_, _, _, refl, refl)
     & ((_, _, _, refl, (_, _, _, refl, refl) & (_, _, _, refl, refl) & (_, _, _, refl, refl) & tt)
     & (_, _, _, refl, (_, _, _, refl, refl) & (_, _, _, refl, refl) & (_, _, _, refl, refl) & tt) & tt)
@@ -132,5 +132,5 @@ type-differs a = differ _ _ refl (same-text _ _ (a .1 .1 .1 .0 .1 .0 .1 .0))
 
 -- another vertex
 vertex-differs : Alike (treeOf (roads "2.0" "Road" "Road" "0")) (treeOf (roads "2.0" "Road" "Road" "1")) → ⊥
-unfolding roads reading same modelOf get orNull numberOf zeroIfNone decimalOf timesTen integerOf natural threeOf
+unfolding roads reading same modelOf get orNull maybeDecimal zeroIfNone decimalOf wholeOf integerOf natural threeOf
 vertex-differs a = differ _ _ refl (ap (λ t. map (λ (v : Three ℤ). natural (v .z)) (t .vertices)) (alike-same-model _ _ a))

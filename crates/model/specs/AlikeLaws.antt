@@ -12,7 +12,7 @@ use lib.ListN.{length}
 use Rattle.utf8.specs.Utf8.{same}
 use Rattle.utf8.specs.Laws.{clash, never, unless, same-equal, same-refl}
 use Rattle.strings.specs.Strings.{decode}
-use Rattle.json.specs.Tree.{Json, null, bool, num, str, arr, obj, Items, none, _▸_, Members, empty, member}
+use Rattle.json.specs.Tree.{Json, null, bool, num, str, arr, obj, Items, noItems, _▸_, Members, empty, member}
 use Rattle.nodes.specs.Access.{Member, listed, pairs, elements, members, nameOf, firstNamed, find}
 use Rattle.everywhere.specs.Everywhere.{among, repeated, rule6, rule6In, rule6Of}
 use Rattle.model.specs.Code.{All}
@@ -167,7 +167,7 @@ mutual
       (p, e, ms, refl, refl, matched ms (pairs ms) (distinct [] ms r) (λ w k f. (k, f, in-self ms q w k f)))
 
   all-self : (vs : Items) → rule6In vs ≡ [] → SameAll vs (listed vs)
-  all-self none c = tt
+  all-self noItems c = tt
   all-self (v ▸ vs) c = let (r, q) = append-eq-nil-iff .0 c in (same-self v r, all-self vs q)
 
   in-self : (ms : Members) → rule6Of ms ≡ [] → (w : List ℕ) (j : Json) → firstNamed w (pairs ms) ≡ some j → Same j j
@@ -205,9 +205,9 @@ mutual
       )
 
   all-sym : (vs us : Items) → rule6In vs ≡ [] → SameAll vs (listed us) → SameAll us (listed vs)
-  all-sym none none c s = tt
-  all-sym none (u ▸ us) c s = absurd s
-  all-sym (v ▸ vs) none c s = absurd s
+  all-sym noItems noItems c s = tt
+  all-sym noItems (u ▸ us) c s = absurd s
+  all-sym (v ▸ vs) noItems c s = absurd s
   all-sym (v ▸ vs) (u ▸ us) c s = let (r, q) = append-eq-nil-iff .0 c in (same-sym v u r (s .0), all-sym vs us q (s .1))
 
   in-sym : (ms : Members) (l : List Member) → rule6Of ms ≡ [] → SameIn ms l → (w : List ℕ) (j : Json) → firstNamed w (pairs ms) ≡ some j
@@ -225,7 +225,7 @@ Keeps v = rule6 v ≡ []
 
 items-keep : (vs : Items) → rule6In vs ≡ [] → All Keeps (listed vs)
 unfolding rule6 listed
-items-keep none c = tt
+items-keep noItems c = tt
 items-keep (v ▸ vs) c = let (r, q) = append-eq-nil-iff .0 c in (r, items-keep vs q)
 
 pairs-keep : (ms : Members) → rule6Of ms ≡ [] → All (λ (m : Member). Keeps (m .1)) (pairs ms)

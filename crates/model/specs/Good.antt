@@ -8,7 +8,7 @@ use lib.Signed.{mag}
 use Rattle.model.specs.Code.{All}
 use Rattle.numerals.specs.Numerals.{Decimal}
 use Rattle.words.specs.Words.{depth, valuesDepth}
-use Rattle.model.specs.Model.{Nest, Three, Lod, Surface, listed, added, Semantics, Geometry, Object, Model, numberOf, idsOf, sheetOf}
+use Rattle.model.specs.Model.{Nest, Three, Lod, Surface, listed, added, Semantics, Geometry, Object, Model, objectNumber, idsOf, sheetOf}
 
 abbrev pub AllThree : {A : Type 0} → (A → Type 0) → Three A → Type 0
 AllThree P t = P (t .x) × P (t .y) × P (t .z)
@@ -69,7 +69,7 @@ pub record GoodGeometry (vertices : ℕ) (g : Geometry) : Type 0 where
 
 -- an ID that an object has
 abbrev pub Known : List (List ℕ) → List ℕ → Type 0
-Known ids id = numberOf ids id < length ids
+Known ids id = objectNumber ids id < length ids
 
 pub record GoodObject (vertices : ℕ) (ids : List (List ℕ)) (o : Object (List ℕ)) : Type 0 where
   pub code : (1 ≤ o .code) × (o .code ≤ 33)

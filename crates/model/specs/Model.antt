@@ -1,4 +1,4 @@
--- The city model (document 01's town) and its sheet (section "Town and sheet"). Assumes nothing: these are definitions.
+-- The city model (document 01's town) and its sheet (section "Town and sheet").
 use mathlib.Core.Bool.{cond}
 use mathlib.Core.List.{List, [], _∷_, _++_, map}
 use mathlib.Core.Option.{Option, none, some}
@@ -8,7 +8,8 @@ use lib.IntN.{ℤ}
 use Rattle.utf8.specs.Utf8.{same}
 use Rattle.numerals.specs.Numerals.{Decimal}
 use Rattle.words.specs.Words.{depth, valuesDepth}
-use Rattle.model.specs.Code.{le, signed, each}
+use Rattle.utf8.specs.Bytes.{le}
+use Rattle.model.specs.Code.{signed, concatMap}
 
 -- ---- the model
 
@@ -85,7 +86,7 @@ lodCode l = l .major * 16 + minorCode (l .minor)
 -- each array as its count and its elements
 unfoldable pub layNest : (d : ℕ) → Nest ℕ d → List ℕ
 layNest zero n = le 4 n
-layNest (suc d) l = le 4 (length l) ++ each (layNest d) l
+layNest (suc d) l = le 4 (length l) ++ concatMap (layNest d) l
 
 unfoldable pub layValue : Option ℕ → List ℕ
 layValue none = le 4 0xffff_ffff
@@ -94,7 +95,7 @@ layValue (some n) = le 4 n
 -- the values in order, with no counts
 unfoldable pub layValues : (d : ℕ) → Nest (Option ℕ) d → List ℕ
 layValues zero v = layValue v
-layValues (suc d) l = each (layValues d) l
+layValues (suc d) l = concatMap (layValues d) l
 
 unfoldable pub laySurface : Surface → List ℕ
 laySurface (listed code) = le 2 code
@@ -105,7 +106,7 @@ surfaceRecs s = rec 7 (laySurface s) ∷ []
 
 unfoldable pub semanticsRecs : (code : ℕ) → Option (Semantics code) → List Rec
 semanticsRecs code none = []
-semanticsRecs code (some s) = each surfaceRecs (s .surfaces) ++ rec 8 (layValues (valuesDepth code) (s .values)) ∷ []
+semanticsRecs code (some s) = concatMap surfaceRecs (s .surfaces) ++ rec 8 (layValues (valuesDepth code) (s .values)) ∷ []
 
 unfoldable pub geometryRecs : Geometry → List Rec
 geometryRecs g =
@@ -115,9 +116,9 @@ geometryRecs g =
 unfoldable pub objectRecs : Object ℕ → List Rec
 objectRecs o =
     rec 3 (le 2 (o .code) ++ o .id)
-    ∷ rec 4 (each (le 4) (o .children))
-    ∷ rec 5 (each (le 4) (o .parents))
-    ∷ each geometryRecs (o .geometries)
+    ∷ rec 4 (concatMap (le 4) (o .children))
+    ∷ rec 5 (concatMap (le 4) (o .parents))
+    ∷ concatMap geometryRecs (o .geometries)
 
 -- the sheet ends with this
 unfoldable pub endRecs : List Rec
@@ -127,18 +128,18 @@ unfoldable pub modelRecs : ModelOf ℕ → List Rec
 unfolding endRecs
 modelRecs t =
     rec 1 (layThree layDecimal (t .scale) ++ layThree layDecimal (t .translate))
-    ∷ rec 2 (each (layThree (signed 4)) (t .vertices))
-    ∷ (each objectRecs (t .objects) ++ endRecs)
+    ∷ rec 2 (concatMap (layThree (signed 4)) (t .vertices))
+    ∷ (concatMap objectRecs (t .objects) ++ endRecs)
 
 unfoldable pub layModel : ModelOf ℕ → List ℕ
-layModel t = each layRec (modelRecs t)
+layModel t = concatMap layRec (modelRecs t)
 
 -- ---- object numbers for IDs
 
 -- how many of the IDs stand before the first that is this one
-unfoldable pub numberOf : List (List ℕ) → List ℕ → ℕ
-numberOf [] id = 0
-numberOf (i ∷ ids) id = cond (same i id) 0 (suc (numberOf ids id))
+unfoldable pub objectNumber : List (List ℕ) → List ℕ → ℕ
+objectNumber [] id = 0
+objectNumber (i ∷ ids) id = cond (same i id) 0 (suc (objectNumber ids id))
 
 unfoldable pub idsOf : {L : Type 0} → List (Object L) → List (List ℕ)
 idsOf objects = map (λ o. o .id) objects
@@ -147,8 +148,8 @@ unfoldable pub numberObject : List (List ℕ) → Object (List ℕ) → Object �
 numberObject ids o = record {
   id = o .id;
   code = o .code;
-  children = map (numberOf ids) (o .children);
-  parents = map (numberOf ids) (o .parents);
+  children = map (objectNumber ids) (o .children);
+  parents = map (objectNumber ids) (o .parents);
   geometries = o .geometries;
 }
 

@@ -9,7 +9,7 @@ use lib.Dec.{T, eqb, eqb→eq}
 use Rattle.model.specs.Code.{All}
 use Rattle.model.specs.Good.{Known, GoodObject, GoodModel}
 use Rattle.utf8.specs.Utf8.{same}
-use Rattle.model.specs.Model.{Object, Model, numberOf, idsOf, numberObject, numberModel}
+use Rattle.model.specs.Model.{Object, Model, objectNumber, idsOf, numberObject, numberModel}
 
 same-step : (a b : ℕ) (l m : List ℕ) (c : Bool) (s : Bool) → (T c → a ≡ b) → (T s → l ≡ m) → T (c && s) → _≡_ {A = List ℕ} (a ∷ l) (b ∷ m)
 same-step a b l m true s f g t = let p = f tt in let q = g t in cc
@@ -29,11 +29,11 @@ number-step i x y n j k true false f g ih hx hy e = absurd (omega arith)
 number-step i x y n j k false true f g ih hx hy e = absurd (omega arith)
 number-step i x y n j k false false f g ih hx hy e = ih (omega arith) (omega arith) (omega arith)
 
-number-inj : (ids : List (List ℕ)) (x y : List ℕ) → Known ids x → Known ids y → numberOf ids x ≡ numberOf ids y → x ≡ y
-unfolding numberOf
+number-inj : (ids : List (List ℕ)) (x y : List ℕ) → Known ids x → Known ids y → objectNumber ids x ≡ objectNumber ids y → x ≡ y
+unfolding objectNumber
 number-inj [] x y kx ky e = absurd (omega arith)
 number-inj (i ∷ ids) x y kx ky e =
-    number-step i x y (length ids) (numberOf ids x) (numberOf ids y) (same i x) (same i y) (same-eq i x) (same-eq i y) (number-inj ids x y) kx ky e
+    number-step i x y (length ids) (objectNumber ids x) (objectNumber ids y) (same i x) (same i y) (same-eq i x) (same-eq i y) (number-inj ids x y) kx ky e
 
 map-inj : {A B : Type 0} (Good : A → Type 0) (f : A → B) → ((a b : A) → Good a → Good b → f a ≡ f b → a ≡ b)
     → (l m : List A) → All Good l → All Good m → map f l ≡ map f m → l ≡ m
@@ -48,7 +48,7 @@ map-inj Good f one (a ∷ l) (b ∷ m) gl gm e =
 object-inj : (v : ℕ) (ids : List (List ℕ)) (a b : Object (List ℕ)) → GoodObject v ids a → GoodObject v ids b → numberObject ids a ≡ numberObject ids b → a ≡ b
 unfolding numberObject
 object-inj v ids a b ga gb e =
-    let links = map-inj (Known ids) (numberOf ids) (number-inj ids) in
+    let links = map-inj (Known ids) (objectNumber ids) (number-inj ids) in
     let kids = links (a .children) (b .children) (ga .children) (gb .children) (ap (λ o. o .children) e) in
     let folk = links (a .parents) (b .parents) (ga .parents) (gb .parents) (ap (λ o. o .parents) e) in
     λ i. record { id = e i .id; code = e i .code; children = kids i; parents = folk i; geometries = e i .geometries }

@@ -9,7 +9,8 @@ use native.Mathlib.Omega.{arith}
 use lib.ListN.{length}
 use lib.Dec.{T, eqb}
 use lib.IntN.{ℤ}
-use Rattle.model.specs.Code.{le, signed, each, All, Holds, Until, Unique, le-unique, signed-unique, each-until, each-same, each-inj, le-full, signed-full}
+use Rattle.utf8.specs.Bytes.{le}
+use Rattle.model.specs.Code.{signed, concatMap, All, Holds, Until, Unique, le-unique, signed-unique, each-until, each-same, each-inj, le-full, signed-full}
 use Rattle.words.specs.Words.{depth, valuesDepth}
 use Rattle.model.specs.Model.{Nest, Three, Lod, Surface, listed, added, Semantics, Geometry, Rec, rec}
 use Rattle.model.specs.Model.{layRec, layThree, layDecimal, minorCode, lodCode, layNest, layValue, layValues, laySurface, surfaceRecs, semanticsRecs, geometryRecs, objectRecs, endRecs, modelRecs, layModel}
@@ -73,8 +74,8 @@ value-unique (some n) (some k) ga gb x y e = let r = le-unique 4 n k (omega arit
 -- values over one boundary have one shape, so their order is enough
 rows-unique : {A B : Type 0} (R : A → B → Type 0) (Good : B → Type 0) (lay : B → List ℕ)
     → ((a : A) (p q : B) → R a p → R a q → Good p → Good q → (x y : List ℕ) → lay p ++ x ≡ lay q ++ y → (p ≡ q) × (x ≡ y))
-    → (l : List A) (p q : List B) → Both R l p → Both R l q → All Good p → All Good q → (x y : List ℕ) → each lay p ++ x ≡ each lay q ++ y → (p ≡ q) × (x ≡ y)
-unfolding each
+    → (l : List A) (p q : List B) → Both R l p → Both R l q → All Good p → All Good q → (x y : List ℕ) → concatMap lay p ++ x ≡ concatMap lay q ++ y → (p ≡ q) × (x ≡ y)
+unfolding concatMap
 rows-unique R Good lay one [] [] [] rp rq gp gq x y e = (refl, e)
 rows-unique R Good lay one [] [] (b ∷ q) rp rq gp gq x y e = absurd rq
 rows-unique R Good lay one [] (b ∷ p) q rp rq gp gq x y e = absurd rp
@@ -124,15 +125,15 @@ surface-unique a b ga gb x y e =
     let p : laySurface a ≡ laySurface b = cc in
     (surface-inj a b ga gb p, cc)
 
-surfaces-until : Until (Next (8 ∷ [])) (All FitSurface) (each surfaceRecs)
+surfaces-until : Until (Next (8 ∷ [])) (All FitSurface) (concatMap surfaceRecs)
 unfolding surfaceRecs oneOf
 surfaces-until =
     each-until (Next (8 ∷ [])) (λ x. Unit {0}) FitSurface surfaceRecs (λ a b ga gb x y sx sy e. surface-unique a b ga gb x y e)
     (λ x n. tt) (λ a x g. tt) (λ a x g n. n)
 
 -- semantics do not begin as what follows a geometry
-no-end : (l : List Surface) (p : List ℕ) (z : List Rec) → Next (6 ∷ 3 ∷ 9 ∷ []) (each surfaceRecs l ++ rec 8 p ∷ [] ++ z) → ⊥
-unfolding each surfaceRecs oneOf
+no-end : (l : List Surface) (p : List ℕ) (z : List Rec) → Next (6 ∷ 3 ∷ 9 ∷ []) (concatMap surfaceRecs l ++ rec 8 p ∷ [] ++ z) → ⊥
+unfolding concatMap surfaceRecs oneOf
 no-end [] p z n = n
 no-end (s ∷ l) p z n = n
 
@@ -173,10 +174,10 @@ geometry-until a b ga gb x y sx sy e =
     (ga .boundary) fn (ga .semantics) fs en x y sx sy es)
     (c .0) (b .boundary) (b .semantics) (gb .boundary) (gb .semantics) (l .1) rest
 
-words-inj : (l m : List ℕ) → All Word l → All Word m → each (le 4) l ≡ each (le 4) m → l ≡ m
+words-inj : (l m : List ℕ) → All Word l → All Word m → concatMap (le 4) l ≡ concatMap (le 4) m → l ≡ m
 words-inj = each-inj Word (le 4) (le-unique 4) (le-full 3)
 
-geometries-until : Until (Next (3 ∷ 9 ∷ [])) (All FitGeometry) (each geometryRecs)
+geometries-until : Until (Next (3 ∷ 9 ∷ [])) (All FitGeometry) (concatMap geometryRecs)
 unfolding geometryRecs oneOf
 geometries-until =
     each-until (Next (3 ∷ 9 ∷ [])) (Next (6 ∷ 3 ∷ 9 ∷ [])) FitGeometry geometryRecs geometry-until
@@ -186,23 +187,23 @@ object-until : Until (Next (3 ∷ 9 ∷ [])) FitObject objectRecs
 unfolding objectRecs
 object-until a b ga gb x y sx sy e =
     let name : le 2 (a .code) ++ a .id ≡ le 2 (b .code) ++ b .id = cc in
-    let kids : each (le 4) (a .children) ≡ each (le 4) (b .children) = cc in
-    let folk : each (le 4) (a .parents) ≡ each (le 4) (b .parents) = cc in
-    let rest : each geometryRecs (a .geometries) ++ x ≡ each geometryRecs (b .geometries) ++ y = cc in
+    let kids : concatMap (le 4) (a .children) ≡ concatMap (le 4) (b .children) = cc in
+    let folk : concatMap (le 4) (a .parents) ≡ concatMap (le 4) (b .parents) = cc in
+    let rest : concatMap geometryRecs (a .geometries) ++ x ≡ concatMap geometryRecs (b .geometries) ++ y = cc in
     let c = le-unique 2 (a .code) (b .code) (ga .code) (gb .code) (a .id) (b .id) name in
     let ch = words-inj (a .children) (b .children) (ga .children) (gb .children) kids in
     let pa = words-inj (a .parents) (b .parents) (ga .parents) (gb .parents) folk in
     let g = geometries-until (a .geometries) (b .geometries) (ga .geometries) (gb .geometries) x y sx sy rest in
     (λ i. record { id = c .1 i; code = c .0 i; children = ch i; parents = pa i; geometries = g .0 i }, g .1)
 
-objects-until : Until (Next (9 ∷ [])) (All FitObject) (each objectRecs)
+objects-until : Until (Next (9 ∷ [])) (All FitObject) (concatMap objectRecs)
 unfolding objectRecs oneOf
 objects-until =
     each-until (Next (9 ∷ [])) (Next (3 ∷ 9 ∷ [])) FitObject objectRecs object-until
     (next-right 3 (9 ∷ [])) (λ a x g. tt) (λ a x g n. n)
 
 vertices-inj : (l m : List (Three ℤ)) → All (AllThree (Holds 4)) l → All (AllThree (Holds 4)) m
-    → each (layThree (signed 4)) l ≡ each (layThree (signed 4)) m → l ≡ m
+    → concatMap (layThree (signed 4)) l ≡ concatMap (layThree (signed 4)) m → l ≡ m
 unfolding layThree
 vertices-inj =
     each-inj (AllThree (Holds 4)) (layThree (signed 4)) (three-unique (Holds 4) (signed 4) (signed-unique 4))
@@ -212,8 +213,8 @@ model-unique : Unique FitModel modelRecs
 unfolding modelRecs oneOf
 model-unique a b ga gb x y e =
     let six : layThree layDecimal (a .scale) ++ layThree layDecimal (a .translate) ≡ layThree layDecimal (b .scale) ++ layThree layDecimal (b .translate) = cc in
-    let points : each (layThree (signed 4)) (a .vertices) ≡ each (layThree (signed 4)) (b .vertices) = cc in
-    let rest : (each objectRecs (a .objects) ++ endRecs) ++ x ≡ (each objectRecs (b .objects) ++ endRecs) ++ y = cc in
+    let points : concatMap (layThree (signed 4)) (a .vertices) ≡ concatMap (layThree (signed 4)) (b .vertices) = cc in
+    let rest : (concatMap objectRecs (a .objects) ++ endRecs) ++ x ≡ (concatMap objectRecs (b .objects) ++ endRecs) ++ y = cc in
     let three = three-unique FitDecimal layDecimal decimal-unique in
     let s = three (a .scale) (b .scale) (ga .scale) (gb .scale) _ _ six in
     let t = three (a .translate) (b .translate) (ga .translate) (gb .translate) [] [] (ap (λ k. k ++ []) (s .1)) in
@@ -236,9 +237,9 @@ rec-unique (rec k p) (rec j q) ga gb x y e =
     (λ i. rec (m .0 i) (r .0 i), r .1)
 
 -- of two runs of records that agree as bytes, one is the beginning of the other
-runs : (l m : List Rec) → All FitRec l → All FitRec m → (x y : List ℕ) → each layRec l ++ x ≡ each layRec m ++ y
-    → ((z : List Rec) × (l ≡ m ++ z) × (y ≡ each layRec z ++ x)) ⊎ ((z : List Rec) × (m ≡ l ++ z) × (x ≡ each layRec z ++ y))
-unfolding each
+runs : (l m : List Rec) → All FitRec l → All FitRec m → (x y : List ℕ) → concatMap layRec l ++ x ≡ concatMap layRec m ++ y
+    → ((z : List Rec) × (l ≡ m ++ z) × (y ≡ concatMap layRec z ++ x)) ⊎ ((z : List Rec) × (m ≡ l ++ z) × (x ≡ concatMap layRec z ++ y))
+unfolding concatMap
 runs [] m gl gm x y e = inr (m, refl, e)
 runs (a ∷ l) [] gl gm x y e = inl (a ∷ l, refl, sym e)
 runs (a ∷ l) (b ∷ m) gl gm x y e =
@@ -251,9 +252,9 @@ runs (a ∷ l) (b ∷ m) gl gm x y e =
 
 -- THE LAW: a sheet is read in one way, whatever follows it
 pub sheet-unique : Unique FitModel layModel
-unfolding layModel each
+unfolding layModel concatMap
 sheet-unique a b ga gb x y e =
     elim (runs (modelRecs a) (modelRecs b) (ga .payloads) (gb .payloads) x y e) [
-      | inl t ↦ let r = model-unique a b ga gb [] (t .0) (append-nil (modelRecs a) ∙ t .1) in (r .0, sym (t .2 ∙ ap (λ z. each layRec z ++ x) (sym (r .1))))
-      | inr t ↦ let r = model-unique b a gb ga [] (t .0) (append-nil (modelRecs b) ∙ t .1) in (sym (r .0), t .2 ∙ ap (λ z. each layRec z ++ y) (sym (r .1)))
+      | inl t ↦ let r = model-unique a b ga gb [] (t .0) (append-nil (modelRecs a) ∙ t .1) in (r .0, sym (t .2 ∙ ap (λ z. concatMap layRec z ++ x) (sym (r .1))))
+      | inr t ↦ let r = model-unique b a gb ga [] (t .0) (append-nil (modelRecs b) ∙ t .1) in (sym (r .0), t .2 ∙ ap (λ z. concatMap layRec z ++ y) (sym (r .1)))
     ]

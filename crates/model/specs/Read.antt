@@ -1,5 +1,5 @@
 -- The city model of a JSON tree. Whatever is not there, or is of another kind, reads as empty, zero or none: that matters for no accepted text.
--- Assumes nothing: these are definitions.
+--
 use mathlib.Core.Bool.{cond}
 use mathlib.Core.List.{List, [], _∷_, map}
 use mathlib.Core.Option.{Option, none, some, Option·map}
@@ -24,20 +24,20 @@ unfoldable pub get : String → Json → Json
 get name j = orNull (find name j)
 
 -- a number, by its value
-unfoldable pub numberOf : Json → Option Decimal
-numberOf (tree.null p e) = none
-numberOf (tree.bool p e b) = none
-numberOf (tree.num p e raw) = some (decimal raw)
-numberOf (tree.str p e raw) = none
-numberOf (tree.arr p e vs) = none
-numberOf (tree.obj p e ms) = none
+unfoldable pub maybeDecimal : Json → Option Decimal
+maybeDecimal (tree.null p e) = none
+maybeDecimal (tree.bool p e b) = none
+maybeDecimal (tree.num p e raw) = some (decimal raw)
+maybeDecimal (tree.str p e raw) = none
+maybeDecimal (tree.arr p e vs) = none
+maybeDecimal (tree.obj p e ms) = none
 
 unfoldable pub zeroIfNone : Option Decimal → Decimal
 zeroIfNone none = record { m = pos 0; e = pos 0 }
 zeroIfNone (some d) = d
 
 unfoldable pub decimalOf : Json → Decimal
-decimalOf j = zeroIfNone (numberOf j)
+decimalOf j = zeroIfNone (maybeDecimal j)
 
 -- the value of a whole number
 unfoldable pub integerOf : Json → ℤ
@@ -52,7 +52,7 @@ indexOf j = natural (integerOf j)
 
 -- a semantic value: none where the value is no number, as null
 unfoldable pub valueOf : Json → Option ℕ
-valueOf j = Option·map (λ d. natural (wholeOf d)) (numberOf j)
+valueOf j = Option·map (λ d. natural (wholeOf d)) (maybeDecimal j)
 
 unfoldable pub threeOf : {A : Type 0} → (Json → A) → Json → Three A
 threeOf read j = let l = elements j in record { x = read (getD l 0 (tree.null 0 0)); y = read (getD l 1 (tree.null 0 0)); z = read (getD l 2 (tree.null 0 0)) }

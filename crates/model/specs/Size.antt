@@ -10,7 +10,8 @@ use Prim.Native.String.{String}
 use lib.ListN.{length, getD, length-append, length-map}
 use lib.Dec.{eqb}
 use lib.IntN.{ℤ}
-use Rattle.model.specs.Code.{All, le, signed, each}
+use Rattle.utf8.specs.Bytes.{le}
+use Rattle.model.specs.Code.{All, signed, concatMap}
 use Rattle.numerals.specs.Numerals.{Decimal}
 use Rattle.words.specs.Words.{depth, valuesDepth}
 use Rattle.model.specs.Model.{Three, Model, Rec, rec}
@@ -20,7 +21,7 @@ use Rattle.model.specs.Model.{layRec, layThree, layDecimal, lodCode, lay
 use Rattle.utf8.specs.Ascii.{ascii}
 use Rattle.words.specs.Words.{codeOf, surfaceWords}
 use Rattle.strings.specs.Strings.{decode}
-use Rattle.json.specs.Tree.{Json, null, bool, num, str, arr, obj, Items, none, _▸_, Members, empty, member}
+use Rattle.json.specs.Tree.{Json, null, bool, num, str, arr, obj, Items, noItems, _▸_, Members, empty, member}
 use Rattle.nodes.specs.Access.{Member, listed, pairs, elements, members, nameOf, textOf, firstNamed, find}
 use Rattle.model.specs.Read.{get, orNull, integerOf, indexOf, valueOf, threeOf, nestOf, surfaceNamed, surfaceOf, semanticsOf, geometryOf, objectOf, modelOf}
 use Rattle.model.specs.Weigh.{length-le, length-signed, each-each, weight, weight-cons, weight-append}
@@ -36,7 +37,7 @@ unfoldable mutual
   size (obj p e ms) = suc (weights ms)
 
   pub sizes : Items → ℕ
-  sizes none = 0
+  sizes noItems = 0
   sizes (j ▸ v) = size j + sizes v
 
   pub weights : Members → ℕ
@@ -61,7 +62,7 @@ size-pos (obj p e m) = omega arith
 
 listed-size : (v : Items) → total size (listed v) ≤ sizes v
 unfolding size total listed
-listed-size none = omega arith
+listed-size noItems = omega arith
 listed-size (j ▸ v) = omega (arith, listed-size v)
 
 pairs-size : (m : Members) → total memberSize (pairs m) ≤ weights m
@@ -156,20 +157,20 @@ count-size (j ∷ l) = omega (arith, size-pos j, count-size l)
 pub count-within : (j : Json) → length (elements j) ≤ size j
 count-within j = omega (arith, count-size (elements j), elements-size j)
 
-each-bound : {A T : Type 0} (enc : A → List T) (f : A → ℕ) (c : ℕ) → ((a : A) → length (enc a) ≤ c * f a) → (l : List A) → length (each enc l) ≤ c * total f l
-unfolding each total
+each-bound : {A T : Type 0} (enc : A → List T) (f : A → ℕ) (c : ℕ) → ((a : A) → length (enc a) ≤ c * f a) → (l : List A) → length (concatMap enc l) ≤ c * total f l
+unfolding concatMap total
 each-bound enc f c h [] = omega arith
-each-bound enc f c h (a ∷ l) = omega (arith, length-append (enc a) (each enc l), h a, each-bound enc f c h l)
+each-bound enc f c h (a ∷ l) = omega (arith, length-append (enc a) (concatMap enc l), h a, each-bound enc f c h l)
 
-each-map : {A B T : Type 0} (enc : B → List T) (f : A → B) (l : List A) → each enc (map f l) ≡ each (λ a. enc (f a)) l
-unfolding each
+each-map : {A B T : Type 0} (enc : B → List T) (f : A → B) (l : List A) → concatMap enc (map f l) ≡ concatMap (λ a. enc (f a)) l
+unfolding concatMap
 each-map enc f [] = refl
 each-map enc f (a ∷ l) = ap (λ r. enc (f a) ++ r) (each-map enc f l)
 
-words-length : (l : List ℕ) → length (each (le 4) l) ≤ 4 * length l
-unfolding each
+words-length : (l : List ℕ) → length (concatMap (le 4) l) ≤ 4 * length l
+unfolding concatMap
 words-length [] = omega arith
-words-length (n ∷ l) = omega (arith, length-append (le 4 n) (each (le 4) l), length-le 4 n, words-length l)
+words-length (n ∷ l) = omega (arith, length-append (le 4 n) (concatMap (le 4) l), length-le 4 n, words-length l)
 
 nest-length : (d : ℕ) (j : Json) → length (layNest d (nestOf indexOf d j)) ≤ 4 * size j
 unfolding layNest nestOf
@@ -178,7 +179,7 @@ nest-length (suc d) j =
     let l = map (nestOf indexOf d) (elements j) in
     let e = ap length (each-map (layNest d) (nestOf indexOf d) (elements j)) in
     let b = each-bound (λ k. layNest d (nestOf indexOf d k)) size 4 (nest-length d) (elements j) in
-    omega (arith, length-append (le 4 (length l)) (each (layNest d) l), length-le 4 (length l), elements-size j)
+    omega (arith, length-append (le 4 (length l)) (concatMap (layNest d) l), length-le 4 (length l), elements-size j)
 
 value-length : (v : Option ℕ) → length (layValue v) ≡ 4
 unfolding layValue
@@ -199,7 +200,7 @@ surface-cond true w c = omega (arith, length-append (le 2 19) w, length-le 2 19)
 surface-cond false w c = omega (arith, length-le 2 c)
 
 surface-weight : (j : Json) → weight (surfaceRecs (surfaceOf j)) ≤ 9 * size j
-unfolding surfaceRecs surfaceOf surfaceNamed weight each
+unfolding surfaceRecs surfaceOf surfaceNamed weight concatMap
 surface-weight j =
     let t = textOf (get "type" j) in
     let s = surfaceNamed t in
@@ -207,20 +208,20 @@ surface-weight j =
 
 -- the weight of what a list of parts gives
 weight-bound : {A B : Type 0} (recs : B → List Rec) (read : A → B) (f : A → ℕ) (c : ℕ) → ((a : A) → weight (recs (read a)) ≤ c * f a)
-    → (l : List A) → weight (each recs (map read l)) ≤ c * total f l
+    → (l : List A) → weight (concatMap recs (map read l)) ≤ c * total f l
 unfolding weight
 weight-bound recs read f c h l =
-    omega (arith, ap length (each-each recs layRec (map read l)), ap length (each-map (λ b. each layRec (recs b)) read l), each-bound (λ a. each layRec (recs (read a))) f c h l)
+    omega (arith, ap length (each-each recs layRec (map read l)), ap length (each-map (λ b. concatMap layRec (recs b)) read l), each-bound (λ a. concatMap layRec (recs (read a))) f c h l)
 
 semantics-weight : (c : ℕ) (o : Option Json) → weight (semanticsRecs c (Option·map (semanticsOf c) o)) ≤ 19 * found o
-unfolding semanticsRecs semanticsOf found weight each
+unfolding semanticsRecs semanticsOf found weight concatMap
 semantics-weight c option.none = omega arith
 semantics-weight c (some j) =
     let ss = elements (get "surfaces" j) in
     let p = layValues (valuesDepth c) (nestOf valueOf (valuesDepth c) (get "values" j)) in
     omega (
       arith,
-      weight-append (each surfaceRecs (map surfaceOf ss)) (rec 8 p ∷ []),
+      weight-append (concatMap surfaceRecs (map surfaceOf ss)) (rec 8 p ∷ []),
       weight-cons 8 p [],
       weight-bound surfaceRecs surfaceOf size 9 surface-weight ss,
       elements-size (get "surfaces" j),
@@ -252,20 +253,20 @@ geometry-weight j =
       size-pos j,
     )
 
-links-length : (ids : List (List ℕ)) (n : String) (j : Json) → length (each (le 4) (map (Model.numberOf ids) (map textOf (elements (get n j))))) ≤ 4 * size j
+links-length : (ids : List (List ℕ)) (n : String) (j : Json) → length (concatMap (le 4) (map (Model.objectNumber ids) (map textOf (elements (get n j))))) ≤ 4 * size j
 links-length ids n j =
     let l = elements (get n j) in
-    omega (arith, words-length (map (Model.numberOf ids) (map textOf l)), length-map (map textOf l) (Model.numberOf ids), length-map l textOf, count-size l, elements-size (get n j), get-size n j)
+    omega (arith, words-length (map (Model.objectNumber ids) (map textOf l)), length-map (map textOf l) (Model.objectNumber ids), length-map l textOf, count-size l, elements-size (get n j), get-size n j)
 
 object-weight : (ids : List (List ℕ)) (m : Member) → weight (objectRecs (numberObject ids (objectOf m))) ≤ 61 * memberSize m
 unfolding objectRecs numberObject objectOf memberSize
 object-weight ids m =
     let j = m .1 in
     let o = numberObject ids (objectOf m) in
-    let g = each geometryRecs (o .geometries) in
+    let g = concatMap geometryRecs (o .geometries) in
     let k = elements (get "geometry" j) in
-    let a = each (le 4) (o .children) in
-    let b = each (le 4) (o .parents) in
+    let a = concatMap (le 4) (o .children) in
+    let b = concatMap (le 4) (o .parents) in
     omega (
       arith,
       weight-cons 3 (le 2 (o .code) ++ nameOf m) (rec 4 a ∷ rec 5 b ∷ g),
@@ -289,10 +290,10 @@ decimals-length : (t : Three Decimal) → length (layThree layDecimal t) ≡ 30
 unfolding layThree layDecimal
 decimals-length t = simp (length-append, length-signed)
 
-vertices-length : (l : List (Three ℤ)) → length (each (layThree (signed 4)) l) ≡ 12 * length l
-unfolding each
+vertices-length : (l : List (Three ℤ)) → length (concatMap (layThree (signed 4)) l) ≡ 12 * length l
+unfolding concatMap
 vertices-length [] = refl
-vertices-length (v ∷ l) = omega (arith, length-append (layThree (signed 4) v) (each (layThree (signed 4)) l), three-length v, vertices-length l)
+vertices-length (v ∷ l) = omega (arith, length-append (layThree (signed 4) v) (concatMap (layThree (signed 4)) l), three-length v, vertices-length l)
 
 -- numbers for links, done as the objects are read
 number-map : (ids : List (List ℕ)) (l : List Member) → map (numberObject ids) (map objectOf l) ≡ map (λ m. numberObject ids (objectOf m)) l
@@ -300,19 +301,19 @@ number-map ids [] = refl
 number-map ids (m ∷ l) = ap (λ r. numberObject ids (objectOf m) ∷ r) (number-map ids l)
 
 end-weight : weight endRecs ≡ 6
-unfolding endRecs weight each layRec le
+unfolding endRecs weight concatMap layRec le
 end-weight = refl
 
 pub sheet-short : (j : Json) → length (sheetOf (modelOf j)) ≤ 78 + 73 * size j
-unfolding sheetOf layModel modelRecs numberModel modelOf weight each
+unfolding sheetOf layModel modelRecs numberModel modelOf weight concatMap
 sheet-short j =
     let t = modelOf j in
     let ids = idsOf (t .objects) in
     let ms = members (get "CityObjects" j) in
     let vs = elements (get "vertices" j) in
     let six = layThree layDecimal (t .scale) ++ layThree layDecimal (t .translate) in
-    let points = each (layThree (signed 4)) (t .vertices) in
-    let objects = each objectRecs (map (numberObject ids) (map objectOf ms)) in
+    let points = concatMap (layThree (signed 4)) (t .vertices) in
+    let objects = concatMap objectRecs (map (numberObject ids) (map objectOf ms)) in
     omega (
       arith,
       weight-cons 1 six (rec 2 points ∷ (objects ++ endRecs)),
@@ -327,7 +328,7 @@ sheet-short j =
       count-size vs,
       elements-size (get "vertices" j),
       get-size "vertices" j,
-      ap (λ l. weight (each objectRecs l)) (number-map ids ms),
+      ap (λ l. weight (concatMap objectRecs l)) (number-map ids ms),
       weight-bound objectRecs (λ m. numberObject ids (objectOf m)) memberSize 61 (object-weight ids) ms,
       members-size (get "CityObjects" j),
       get-size "CityObjects" j,

@@ -7,11 +7,12 @@ use native.Mathlib.Omega.{arith}
 use lib.ListN.{length, length-append, length-map}
 use lib.IntN.{ℤ, pos, negsuc, natAbs}
 use lib.Signed.{mag}
-use Rattle.model.specs.Code.{le, signed, each, All}
+use Rattle.utf8.specs.Bytes.{le}
+use Rattle.model.specs.Code.{signed, concatMap, All}
 use Rattle.numerals.specs.Numerals.{Decimal}
 use Rattle.words.specs.Words.{depth, valuesDepth}
 use Rattle.model.specs.Model.{Nest, Three, Surface, listed, added, Semantics, Geometry, Object, Model, ModelOf, Rec, rec}
-use Rattle.model.specs.Model.{layRec, layThree, lodCode, layNest, layValues, surfaceRecs, semanticsRecs, geometryRecs, objectRecs, endRecs, modelRecs, layModel, sheetOf, numberOf, idsOf, numberObject, numberModel}
+use Rattle.model.specs.Model.{layRec, layThree, lodCode, layNest, layValues, surfaceRecs, semanticsRecs, geometryRecs, objectRecs, endRecs, modelRecs, layModel, sheetOf, objectNumber, idsOf, numberObject, numberModel}
 use Rattle.model.specs.Good.{AllThree, Leaves, GoodDecimal, GoodSurface, GoodValue, GoodSemantics, GoodGeometry, Known, GoodObject, GoodModel}
 use Rattle.model.specs.Fits.{Word, Half, FitDecimal, FitNest, FitValue, FitSurface, FitSemantics, FitGeometry, FitObject, FitRec, FitModel}
 
@@ -29,10 +30,10 @@ pub all-append : {A : Type 0} (P : A → Type 0) (l m : List A) → All P l → 
 all-append P [] m g h = h
 all-append P (a ∷ l) m g h = (g .0, all-append P l m (g .1) h)
 
-all-each : {A B : Type 0} (P : B → Type 0) (f : A → List B) → ((a : A) → All P (f a)) → (l : List A) → All P (each f l)
-unfolding each
+all-each : {A B : Type 0} (P : B → Type 0) (f : A → List B) → ((a : A) → All P (f a)) → (l : List A) → All P (concatMap f l)
+unfolding concatMap
 all-each P f g [] = tt
-all-each P f g (a ∷ l) = all-append P (f a) (each f l) (g a) (all-each P f g l)
+all-each P f g (a ∷ l) = all-append P (f a) (concatMap f l) (g a) (all-each P f g l)
 
 all-of-map : {A B : Type 0} (P : B → Type 0) (f : A → B) (l : List A) → All (λ a. P (f a)) l → All P (map f l)
 all-of-map P f [] g = tt
@@ -55,29 +56,29 @@ length-signed w (pos n) = length-le w n
 length-signed w (negsuc n) = length-le w _
 
 module _ {A T : Type 0} (enc : A → List T) where
-  each-append : (l m : List A) → each enc (l ++ m) ≡ each enc l ++ each enc m
-  unfolding each
+  each-append : (l m : List A) → concatMap enc (l ++ m) ≡ concatMap enc l ++ concatMap enc m
+  unfolding concatMap
   each-append [] m = refl
-  each-append (a ∷ l) m = ap (λ r. enc a ++ r) (each-append l m) ∙ sym (append-assoc (enc a) (each enc l) (each enc m))
+  each-append (a ∷ l) m = ap (λ r. enc a ++ r) (each-append l m) ∙ sym (append-assoc (enc a) (concatMap enc l) (concatMap enc m))
 
-  parts : (n : ℕ) (l : List A) → length (each enc l) < n → All (λ a. length (enc a) < n) l
-  unfolding each
+  parts : (n : ℕ) (l : List A) → length (concatMap enc l) < n → All (λ a. length (enc a) < n) l
+  unfolding concatMap
   parts n [] h = tt
   parts n (a ∷ l) h =
-      let e = length-append (enc a) (each enc l) in
+      let e = length-append (enc a) (concatMap enc l) in
       (omega arith, parts n l (omega arith))
 
-  count : ((a : A) → 1 ≤ length (enc a)) → (l : List A) → length l ≤ length (each enc l)
-  unfolding each
+  count : ((a : A) → 1 ≤ length (enc a)) → (l : List A) → length l ≤ length (concatMap enc l)
+  unfolding concatMap
   count f [] = omega arith
   count f (a ∷ l) =
-      let e = length-append (enc a) (each enc l) in
+      let e = length-append (enc a) (concatMap enc l) in
       omega (arith, f a, count f l)
 
-pub each-each : {A B T : Type 0} (f : A → List B) (enc : B → List T) (l : List A) → each enc (each f l) ≡ each (λ a. each enc (f a)) l
-unfolding each
+pub each-each : {A B T : Type 0} (f : A → List B) (enc : B → List T) (l : List A) → concatMap enc (concatMap f l) ≡ concatMap (λ a. concatMap enc (f a)) l
+unfolding concatMap
 each-each f enc [] = refl
-each-each f enc (a ∷ l) = each-append enc (f a) (each f l) ∙ ap (λ r. each enc (f a) ++ r) (each-each f enc l)
+each-each f enc (a ∷ l) = each-append enc (f a) (concatMap f l) ∙ ap (λ r. concatMap enc (f a) ++ r) (each-each f enc l)
 
 -- ---- the parts of a model
 
@@ -94,13 +95,13 @@ three-map f t g = (f (t .x) (g .0), f (t .y) (g .1), f (t .z) (g .2))
 layNest-some : (d : ℕ) (l : Nest ℕ d) → 1 ≤ length (layNest d l)
 unfolding layNest
 layNest-some zero n = omega (arith, length-le 4 n)
-layNest-some (suc d) l = omega (arith, length-le 4 (length l), length-append (le 4 (length l)) (each (layNest d) l))
+layNest-some (suc d) l = omega (arith, length-le 4 (length l), length-append (le 4 (length l)) (concatMap (layNest d) l))
 
 nest-fits : (v : ℕ) → v < 2 ^ 32 → (d : ℕ) (l : Nest ℕ d) → Leaves (λ i. i < v) d l → length (layNest d l) < 2 ^ 32 → FitNest d l
 unfolding layNest
 nest-fits v h zero n g s = omega arith
 nest-fits v h (suc d) l g s =
-    let e = length-append (le 4 (length l)) (each (layNest d) l) in
+    let e = length-append (le 4 (length l)) (concatMap (layNest d) l) in
     let c = count (layNest d) (layNest-some d) l in
     (omega arith, all-two (nest-fits v h d) l g (parts (layNest d) (2 ^ 32) l (omega arith)))
 
@@ -126,29 +127,29 @@ rec-some (rec k p) = omega (arith, length-rec k p)
 
 -- how many bytes records take
 unfoldable pub weight : List Rec → ℕ
-weight l = length (each layRec l)
+weight l = length (concatMap layRec l)
 
 pub weight-cons : (k : ℕ) (p : List ℕ) (l : List Rec) → weight (rec k p ∷ l) ≡ 6 + length p + weight l
-unfolding weight each
-weight-cons k p l = length-append (layRec (rec k p)) (each layRec l) ∙ ap (λ n. n + length (each layRec l)) (length-rec k p)
+unfolding weight concatMap
+weight-cons k p l = length-append (layRec (rec k p)) (concatMap layRec l) ∙ ap (λ n. n + length (concatMap layRec l)) (length-rec k p)
 
 pub weight-append : (l m : List Rec) → weight (l ++ m) ≡ weight l + weight m
 unfolding weight
-weight-append l m = ap length (each-append layRec l m) ∙ length-append (each layRec l) (each layRec m)
+weight-append l m = ap length (each-append layRec l m) ∙ length-append (concatMap layRec l) (concatMap layRec m)
 
-weight-parts : {A : Type 0} (f : A → List Rec) (n : ℕ) (l : List A) → weight (each f l) < n → All (λ a. weight (f a) < n) l
+weight-parts : {A : Type 0} (f : A → List Rec) (n : ℕ) (l : List A) → weight (concatMap f l) < n → All (λ a. weight (f a) < n) l
 unfolding weight
-weight-parts f n l h = parts (λ a. each layRec (f a)) n l (rw each-each at h)
+weight-parts f n l h = parts (λ a. concatMap layRec (f a)) n l (rw each-each at h)
 
-weight-count : {A : Type 0} (f : A → List Rec) → ((a : A) → 1 ≤ length (f a)) → (l : List A) → length l ≤ weight (each f l)
+weight-count : {A : Type 0} (f : A → List Rec) → ((a : A) → 1 ≤ length (f a)) → (l : List A) → length l ≤ weight (concatMap f l)
 unfolding weight
-weight-count f h l = omega (arith, count f h l, count layRec rec-some (each f l))
+weight-count f h l = omega (arith, count f h l, count layRec rec-some (concatMap f l))
 
 semantics-fits : (c : ℕ) (b : Nest ℕ (depth c)) (s : Option (Semantics c)) → GoodSemantics c b s → weight (semanticsRecs c s) < 2 ^ 32 → FitSemantics c b s
 unfolding semanticsRecs surfaceRecs
 semantics-fits c b none g h = tt
 semantics-fits c b (some s) g h =
-    let e = weight-append (each surfaceRecs (s .surfaces)) (rec 8 (layValues (valuesDepth c) (s .values)) ∷ []) in
+    let e = weight-append (concatMap surfaceRecs (s .surfaces)) (rec 8 (layValues (valuesDepth c) (s .values)) ∷ []) in
     let k = weight-count surfaceRecs (λ a. omega arith) (s .surfaces) in
     (all-map surface-fits (s .surfaces) (g .0), g .1, leaves-map (value-fits (length (s .surfaces)) (omega arith)) (valuesDepth c) (s .values) (g .2))
 
@@ -166,8 +167,8 @@ geometry-fits v hv g h w =
       semantics = semantics-fits (g .code) (g .boundary) (g .semantics) (h .semantics) (omega arith);
     }
 
-known-fits : (ids : List (List ℕ)) → length ids < 2 ^ 32 → (l : List (List ℕ)) → All (Known ids) l → All Word (map (numberOf ids) l)
-known-fits ids h l g = all-of-map Word (numberOf ids) l (all-map (λ i k. omega arith) l g)
+known-fits : (ids : List (List ℕ)) → length ids < 2 ^ 32 → (l : List (List ℕ)) → All (Known ids) l → All Word (map (objectNumber ids) l)
+known-fits ids h l g = all-of-map Word (objectNumber ids) l (all-map (λ i k. omega arith) l g)
 
 object-fits : (v : ℕ) → v < 2 ^ 32 → (ids : List (List ℕ)) → length ids < 2 ^ 32 → (o : Object (List ℕ)) → GoodObject v ids o
     → weight (objectRecs (numberObject ids o)) < 2 ^ 32 → FitObject (numberObject ids o)
@@ -188,7 +189,7 @@ Kind (rec k p) = Half k
 semantics-kinds : (c : ℕ) (s : Option (Semantics c)) → All Kind (semanticsRecs c s)
 unfolding semanticsRecs surfaceRecs
 semantics-kinds c none = tt
-semantics-kinds c (some s) = all-append Kind (each surfaceRecs (s .surfaces)) (rec 8 (layValues (valuesDepth c) (s .values)) ∷ []) (all-each Kind surfaceRecs (λ f. (omega arith, tt)) (s .surfaces)) (omega arith, tt)
+semantics-kinds c (some s) = all-append Kind (concatMap surfaceRecs (s .surfaces)) (rec 8 (layValues (valuesDepth c) (s .values)) ∷ []) (all-each Kind surfaceRecs (λ f. (omega arith, tt)) (s .surfaces)) (omega arith, tt)
 
 geometry-kinds : (g : Geometry) → All Kind (geometryRecs g)
 unfolding geometryRecs
@@ -200,7 +201,7 @@ object-kinds o = (omega arith, (omega arith, (omega arith, all-each Kind geometr
 
 model-kinds : (t : ModelOf ℕ) → All Kind (modelRecs t)
 unfolding modelRecs
-model-kinds t = (omega arith, (omega arith, all-append Kind (each objectRecs (t .objects)) endRecs (all-each Kind objectRecs object-kinds (t .objects)) (omega arith, tt)))
+model-kinds t = (omega arith, (omega arith, all-append Kind (concatMap objectRecs (t .objects)) endRecs (all-each Kind objectRecs object-kinds (t .objects)) (omega arith, tt)))
 
 rec-fits : (r : Rec) → Kind r → length (layRec r) < 2 ^ 32 → FitRec r
 rec-fits (rec k p) h w = (h, omega (arith, length-rec k p))

@@ -1,4 +1,4 @@
--- What the first byte of a value tells, from what the code's tests say. Assumes nothing.
+-- What the first byte of a value tells, from what the code's tests say.
 use Prim.Native.Nat.{ℕ, _≤_, _<_}
 use mathlib.Core.Path.{_≡_, ap, _∙_}
 use mathlib.Core.Bool.{Bool, true, false}

@@ -1,4 +1,4 @@
--- Loops over the elements of an array and over the members of an object. Assumes nothing.
+-- Loops over the elements of an array and over the members of an object.
 use Prim.Native.Nat.{ℕ, _+_, _-_, _≤_, _<_}
 use mathlib.Core.Path.{_≡_, refl, sym, ap, _∙_}
 use mathlib.Core.Bool.{Bool, true, false, not}

@@ -1,4 +1,4 @@
--- What is looked up in a JSON tree. A value of another kind has no elements, no members and no text. Assumes nothing: these are definitions.
+-- What is looked up in a JSON tree. A value of another kind has no elements, no members and no text.
 use Prim.Native.Nat.{ℕ}
 use Prim.Native.String.{String}
 use mathlib.Core.Bool.{Bool, true, false, cond}
@@ -8,7 +8,7 @@ use mathlib.Core.Option as option
 use Rattle.utf8.specs.Ascii.{ascii}
 use Rattle.utf8.specs.Utf8.{same}
 use Rattle.strings.specs.Strings.{decode}
-use Rattle.json.specs.Tree.{Json, null, bool, num, str, arr, obj, Items, none, _▸_, Members, empty, member, Name}
+use Rattle.json.specs.Tree.{Json, null, bool, num, str, arr, obj, Items, noItems, _▸_, Members, empty, member, Name}
 
 -- the kinds of JSON value
 unfoldable pub isNullValue : Json → Bool
@@ -53,7 +53,7 @@ isObjectValue (obj p e ms) = true
 
 -- the elements of an array
 unfoldable pub listed : Items → List Json
-listed none = []
+listed noItems = []
 listed (v ▸ vs) = v ∷ listed vs
 
 unfoldable pub elements : Json → List Json

@@ -1,4 +1,4 @@
--- Faults as numbers, and the least of them. Assumes nothing: these are definitions.
+-- Faults as numbers, and the least of them.
 use Prim.Native.Nat.{ℕ, _+_, _*_, _/_, _%_, min}
 use mathlib.Core.List.{List, [], _∷_}
 
@@ -19,5 +19,5 @@ least best [] = best
 least best (f ∷ fs) = least (min best f) fs
 
 -- greater than every fault
-abbrev pub none : ℕ
-none = 18 * 65536
+abbrev pub noFault : ℕ
+noFault = 18 * 65536

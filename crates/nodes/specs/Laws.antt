@@ -1,4 +1,4 @@
--- Laws for code that reads a node table: what the first byte of a value tells, where a string and a numeral stand, and the least of several faults. Assumes nothing.
+-- Laws for code that reads a node table: what the first byte of a value tells, where a string and a numeral stand, and the least of several faults.
 use mathlib.Core.Path.{_≡_, refl, sym, ap, _∙_}
 use mathlib.Core.Bool.{true, false}
 use mathlib.Core.List.{List, [], _∷_, _++_, append-nil}

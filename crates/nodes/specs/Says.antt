@@ -1,4 +1,4 @@
--- What the functions over a node table ask and tell. Assumes nothing: these are definitions.
+-- What the functions over a node table ask and tell.
 use mathlib.Core.Path.{_≡_}
 use mathlib.Core.List.{List}
 use mathlib.Core.Option.{Option, none, some}

@@ -1,4 +1,4 @@
--- What the code may read at a node, and in a loop over members. Assumes nothing.
+-- What the code may read at a node, and in a loop over members.
 use Prim.Native.Nat.{ℕ, _+_, _*_, _-_, _^_, _≤_, _<_}
 use mathlib.Core.Path.{_≡_}
 use mathlib.Core.List.{List}

@@ -131,6 +131,9 @@ pub fn member(text: &[u8], table: &[u32], i: usize, name: &[u8]) -> Found
     Found::Nothing
 }
 
+// Greater than every fault.
+pub const NO_FAULT: u32 = 18 * 65536;
+
 // The lesser of two faults.
 pub fn lesser(best: u32, other: u32) -> u32
     ensures { λ r. ⌜ r ≡ min best other ⌝ }

@@ -1,4 +1,4 @@
--- Bytes one at a time: what the code's tests of a byte say, and what one byte more does to the definitions. Assumes nothing.
+-- Bytes one at a time: what the code's tests of a byte say, and what one byte more does to the definitions.
 use Prim.Native.Nat.{ℕ, _+_, _-_, _*_, _^_, _/_, _≤_, _<_}
 use native.Mathlib.Omega.{arith}
 use native.Mathlib.Numerals.{add-one}

@@ -1,4 +1,4 @@
--- The pair of a numeral, from what was read of it. Assumes nothing.
+-- The pair of a numeral, from what was read of it.
 use Prim.Native.Nat.{ℕ, zero, suc, _+_, _-_, _^_, _≤_, _<_, min}
 use native.Mathlib.Omega.{arith}
 use native.Mathlib.Nat.{add-zero}
@@ -114,15 +114,15 @@ module _ (z p : ℕ) (zl : z < 2 ^ 63) (pl : p < 2 ^ 63) where
     far-exact : 22 < natAbs (powerOf z p neg (min n (2 ^ 64 - 1))) → 22 < natAbs (powerOf z p neg n)
     far-exact h = ⊎-elim (λ q. subst (λ t. 22 < natAbs (powerOf z p neg t)) q h) (λ q. big neg n (q .0)) (either n (2 ^ 64 - 1))
 
-    near-exact : natAbs (powerOf z p neg (min n (2 ^ 64 - 1))) ≤ 22 → min n (2 ^ 64 - 1) ≡ n
-    near-exact h = ⊎-elim (λ q. q) (λ q. absurd (lost (q .1))) (either n (2 ^ 64 - 1))
+    ranged-exact : natAbs (powerOf z p neg (min n (2 ^ 64 - 1))) ≤ 22 → min n (2 ^ 64 - 1) ≡ n
+    ranged-exact h = ⊎-elim (λ q. q) (λ q. absurd (lost (q .1))) (either n (2 ^ 64 - 1))
       where
         lost : min n (2 ^ 64 - 1) ≡ 2 ^ 64 - 1 → ⊥
         lost q = let w : natAbs (powerOf z p neg (2 ^ 64 - 1)) ≤ 22 = subst (λ t. natAbs (powerOf z p neg t) ≤ 22) q h in omega (arith, big neg (2 ^ 64 - 1) (omega arith))
 
-near-fits : (z : ℤ) → natAbs z ≤ 22 → SFits w64 z
-near-fits (pos n) h = record { sfits = omega arith }
-near-fits (negsuc n) h = record { sfits = omega arith }
+ranged-fits : (z : ℤ) → natAbs z ≤ 22 → SFits w64 z
+ranged-fits (pos n) h = record { sfits = omega arith }
+ranged-fits (negsuc n) h = record { sfits = omega arith }
 
 -- ---- pairs in range and out
 
@@ -219,10 +219,10 @@ module _ (text : List ℕ) (at end : ℕ) {r : Mantissa} {s : Sum} {next : ℕ} 
         let a = far-exact (s .zeros) (s .places) (is-read .room .zeros) (is-read .room .places) minus size (subst (λ k. 22 < natAbs k) stopped b) in
         pair-none (slice at end text) _ (decimal-other (slice at end text) s (is-read .sum) n) (range-far _ a)
 
-    near : natAbs read-power ≤ 22 → some (record { m = signed (negative (slice at end text)) (s .m); e = read-power }) ≡ pairOf (slice at end text)
+    ranged : natAbs read-power ≤ 22 → some (record { m = signed (negative (slice at end text)) (s .m); e = read-power }) ≡ pairOf (slice at end text)
     unfolding minus size exact
-    near b =
-        let k = near-exact (s .zeros) (s .places) (is-read .room .zeros) (is-read .room .places) minus size (subst (λ k. natAbs k ≤ 22) stopped b) in
+    ranged b =
+        let k = ranged-exact (s .zeros) (s .places) (is-read .room .zeros) (is-read .room .places) minus size (subst (λ k. natAbs k ≤ 22) stopped b) in
         let x : read-power ≡ exact (slice at end text) s (is-read .sum) = stopped ∙ ap (powerOf (s .zeros) (s .places) minus) k in
         pair-some
         (slice at end text)
@@ -234,12 +234,12 @@ module _ (text : List ℕ) (at end : ℕ) {r : Mantissa} {s : Sum} {next : ℕ} 
     unfolding pairIn Reaches read-power
     pair-far f p = far (subst (Reaches read-power) f p)
 
-    pub pair-near : {t : Power} {e m : ℤ} {neg : Bool} → t ≡ Near e → Reaches (powerOf (s .zeros) (s .places) (w .negative) (w .magnitude)) t → neg ≡ negative (slice at end text) → m ≡ signed neg (s .m) → pairIn (Pair (toZ w64 (ofZ w64 m)) (toZ w64 (ofZ w64 e))) ≡ pairOf (slice at end text)
+    pub pair-ranged : {t : Power} {e m : ℤ} {neg : Bool} → t ≡ Near e → Reaches (powerOf (s .zeros) (s .places) (w .negative) (w .magnitude)) t → neg ≡ negative (slice at end text) → m ≡ signed neg (s .m) → pairIn (Pair (toZ w64 (ofZ w64 m)) (toZ w64 (ofZ w64 e))) ≡ pairOf (slice at end text)
     unfolding pairIn Reaches read-power
-    pair-near {t} {e} {m} {neg} f p g x =
+    pair-ranged {t} {e} {m} {neg} f p g x =
         let b = subst (Reaches read-power) f p in
         let y : toZ w64 (ofZ w64 m) ≡ signed (negative (slice at end text)) (s .m) = rw x (toZ-ofZ (signed-fits neg (s .m) m-fits)) ∙ ap (λ b. signed b (s .m)) g in
-        let z : toZ w64 (ofZ w64 e) ≡ read-power = rw (b .0) (toZ-ofZ (near-fits read-power (b .1))) in
-        ap some (λ i. record { m = y i; e = z i }) ∙ near (b .1)
+        let z : toZ w64 (ofZ w64 e) ≡ read-power = rw (b .0) (toZ-ofZ (ranged-fits read-power (b .1))) in
+        ap some (λ i. record { m = y i; e = z i }) ∙ ranged (b .1)
 
-pub ruleset pairs = (needs, pair-large, next-high, m-fits, pair-zero, pair-far, pair-near)
+pub ruleset pairs = (needs, pair-large, next-high, m-fits, pair-zero, pair-far, pair-ranged)

@@ -1,4 +1,4 @@
--- Powers of ten: differences that are within 22 of 0. Assumes nothing.
+-- Powers of ten: differences that are within 22 of 0.
 use Prim.Native.Nat.{ℕ, zero, suc, _+_, _-_, _≤_, _<_}
 use native.Mathlib.Omega.{arith}
 use mathlib.Core.Path.{_≡_, refl, sym, ap, _∙_, subst}
@@ -41,13 +41,13 @@ module _ (a b : ℕ) where
   unfolding Reaches
   far-down h l = rw (sub-down a b h) (omega arith)
 
-  pub near-up : b ≤ a → a - b ≤ 22 → (e : ℤ) → e ≡ signed false (a - b) → Reaches (subℕ a b) (Near (toZ w64 (ofZ w64 e)))
+  pub ranged-up : b ≤ a → a - b ≤ 22 → (e : ℤ) → e ≡ signed false (a - b) → Reaches (subℕ a b) (Near (toZ w64 (ofZ w64 e)))
   unfolding Reaches signed
-  near-up h l e q = (rw q (toZ-ofZ (signed-fits false (a - b) (omega arith)) ∙ sym (sub-up a b h)), rw (sub-up a b h) l)
+  ranged-up h l e q = (rw q (toZ-ofZ (signed-fits false (a - b) (omega arith)) ∙ sym (sub-up a b h)), rw (sub-up a b h) l)
 
-  pub near-down : a < b → b - a ≤ 22 → (e : ℤ) → e ≡ signed true (b - a) → Reaches (subℕ a b) (Near (toZ w64 (ofZ w64 e)))
+  pub ranged-down : a < b → b - a ≤ 22 → (e : ℤ) → e ≡ signed true (b - a) → Reaches (subℕ a b) (Near (toZ w64 (ofZ w64 e)))
   unfolding Reaches signed
-  near-down h l e q =
+  ranged-down h l e q =
       let n : b - a ≡ suc (b - suc a) = omega arith in
       (rw q (toZ-ofZ (signed-fits true (b - a) (omega arith)) ∙ ap (signed true) n ∙ sym (sub-down a b h)), rw (sub-down a b h) (omega arith))
 
@@ -97,4 +97,4 @@ module _ (z p n : ℕ) (neg : Bool) where
   pub up-far-2 : neg ≡ false → p < n → 22 < n - p → Reaches (powerOf z p neg n) Far
   up-far-2 e h l = subst (λ t. Reaches t Far) (up e (z + n) p (omega arith)) (far-up (z + n) p (omega arith) (omega arith))
 
-pub ruleset powers = (needs, far-up, far-down, near-up, near-down, down-gap, down-sum, up-gap, up-sum, down-far, down-far-2, up-far, up-far-2)
+pub ruleset powers = (needs, far-up, far-down, ranged-up, ranged-down, down-gap, down-sum, up-gap, up-sum, down-far, down-far-2, up-far, up-far-2)

@@ -1,4 +1,4 @@
--- Short integers: digits alone, and few of them. Assumes nothing.
+-- Short integers: digits alone, and few of them.
 use Prim.Native.Nat.{ℕ, zero, suc, _+_, _-_, _*_, _^_, _≤_, _<_}
 use native.Mathlib.Omega.{arith}
 use native.Mathlib.Nat.{pow-suc, pow-le-pow-right, mul-le-mul-right, mul-assoc, mul-comm, le-trans}

@@ -1,4 +1,4 @@
--- The digits of a mantissa, one byte at a time. Assumes nothing.
+-- The digits of a mantissa, one byte at a time.
 use Prim.Native.Nat.{ℕ, zero, suc, _+_, _-_, _*_, _^_, _≤_, _<_, min}
 use native.Mathlib.Omega.{arith}
 use native.Mathlib.Nat.{mul-assoc, mul-one, pow-succ', le-mul-of-pos-right, pow-le-pow-right, add-zero}

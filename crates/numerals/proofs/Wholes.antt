@@ -1,4 +1,4 @@
--- Integers by sign and magnitude. Assumes nothing.
+-- Integers by sign and magnitude.
 use Prim.Native.Nat.{ℕ, zero, suc, _-_, _^_, _≤_, _<_, min}
 use native.Mathlib.Omega.{arith}
 use mathlib.Core.Path.{_≡_, refl, sym, ap, _∙_}

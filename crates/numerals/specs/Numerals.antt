@@ -1,5 +1,5 @@
 -- JSON numerals by their value (RFC 8259, section 6; document 01, rules 12 and 13). The definitions take any bytes; what they make of bytes
--- that are no numeral matters nowhere. Assumes nothing: these are definitions.
+-- that are no numeral matters nowhere.
 use Prim.Native.Nat.{ℕ, zero, suc, _+_, _-_, _*_, _^_}
 use mathlib.Core.Bool.{Bool, true, false, cond, not, _&&_, _||_}
 use mathlib.Core.Option.{Option, none, some}

@@ -1,5 +1,5 @@
 -- What the functions of the crate say of one another: the answer of `pair`, numbers that stop at the greatest that a machine word holds, and the digits of a
--- numeral read one byte at a time. Assumes nothing: these are definitions.
+-- numeral read one byte at a time.
 use Prim.Native.Nat.{ℕ, zero, suc, _+_, _-_, _*_, _^_, _≤_, _<_, min}
 use mathlib.Core.Path.{_≡_}
 use mathlib.Core.Bool.{Bool, true, false, cond, _&&_, _||_}

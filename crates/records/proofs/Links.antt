@@ -1,4 +1,4 @@
--- The numbers of linked objects, from what the code's tests and callees say. Assumes nothing.
+-- The numbers of linked objects, from what the code's tests and callees say.
 use Prim.Native.Nat.{ℕ, _+_, _-_, _≤_, _<_}
 use mathlib.Core.Path.{_≡_}
 use mathlib.Core.Bool.{Bool, true, false, not}
@@ -12,8 +12,8 @@ use Rattle.nodes.specs.Says.{Sought, Gives}
 use Rattle.nodes.specs.declared.Found.{Found}
 use Rattle.nodes.specs.declared.Found.the-variants.{At, Nothing}
 use Rattle.ids.specs.Says.{TextNode, Offsets, Objects, namesOf, Numbers}
-use Rattle.model.specs.Code.{le}
-use Rattle.model.specs.Model.{numberOf}
+use Rattle.utf8.specs.Bytes.{le}
+use Rattle.model.specs.Model.{objectNumber}
 use Rattle.writer.specs.Writes.{Writes, Closes}
 use Rattle.arrays.specs.Fits.{Elements}
 use Rattle.arrays.specs.Says.{Holds}
@@ -32,7 +32,7 @@ text-there h = record { raw = rawOf (h .node .value); string = string-at (h .nod
 
 -- the bytes of the number of the object that a string names
 unfoldable pub numbered : List Member → Json → List ℕ
-numbered ms s = le 4 (numberOf (namesOf ms) (textOf s))
+numbered ms s = le 4 (objectNumber (namesOf ms) (textOf s))
 
 -- What the loop over the list at the node i knows at the node k
 pub record Listing (x t offsets : List ℕ) (count i n k : ℕ) (d₀ d : List ℕ) (to at : ℕ) : Type 0 where

@@ -1,4 +1,4 @@
--- Members of a value at a node, and the records of a geometry. Assumes nothing.
+-- Members of a value at a node, and the records of a geometry.
 use Prim.Native.Nat.{ℕ}
 use Prim.Native.String.{String}
 use mathlib.Core.Path.{_≡_, sym, ap, _∙_, subst}
@@ -15,7 +15,7 @@ use Rattle.nodes.specs.declared.Found.{Found}
 use Rattle.nodes.specs.declared.Found.the-variants.{At, Nothing}
 use Rattle.fields.specs.Fields.{textIn, typeText}
 use Rattle.words.specs.Words.{geometryWords, codeOf, isLod, depth, valuesDepth}
-use Rattle.model.specs.Code.{le}
+use Rattle.utf8.specs.Bytes.{le}
 use Rattle.model.specs.Model.{layThree, layDecimal, lodCode, layNest, layValues}
 use Rattle.model.specs.Read.{get, orNull, decimalOf, indexOf, valueOf, threeOf, nestOf, lodOf}
 use Rattle.writer.specs.Writes.{Writes, Closes}

@@ -1,4 +1,4 @@
--- Records at a node, from what the code's tests and callees say. Assumes nothing.
+-- Records at a node, from what the code's tests and callees say.
 use Prim.Native.Nat.{ℕ, _+_, _-_, _≤_, _<_}
 use Prim.Native.String.{String}
 use mathlib.Core.Path.{_≡_, refl, sym, ap, _∙_, subst}
@@ -17,7 +17,8 @@ use Rattle.nodes.specs.declared.Found.the-variants.{At, Nothing}
 use Rattle.fields.specs.Fields.{textIn, typeText}
 use Rattle.fields.specs.Laws.{at-node}
 use Rattle.ids.proofs.Rules.{name-text}
-use Rattle.model.specs.Code.{le, each, All}
+use Rattle.utf8.specs.Bytes.{le}
+use Rattle.model.specs.Code.{concatMap, All}
 use Rattle.model.specs.Model.{rec, layRec, laySurface, surfaceRecs}
 use Rattle.model.specs.Read.{orNull, surfaceNamed, surfaceOf}
 use Rattle.sheets.specs.Clear.{type-text}
@@ -84,7 +85,7 @@ module _ {P : Json → Type 0} {f : Json → List ℕ} {x t : List ℕ} {i n k :
 -- all of them were written
 module _ (f : Json → List ℕ) {x t : List ℕ} {found : Found} where
   pub each-none : {d : List ℕ} {to : ℕ} → found ≡ Nothing → WroteFound (eachIn f) x t found d d to to
-  unfolding eachIn orNull elements each
+  unfolding eachIn orNull elements concatMap
   each-none e = wrote-none e refl
 
   pub each-other : {k : ℕ} {b : Bool} {d : List ℕ} {to : ℕ} → found ≡ At k → Gives isArrayValue x t k b → not b ≡ true → WroteFound (eachIn f) x t found d d to to
@@ -99,7 +100,7 @@ module _ (f : Json → List ℕ) {x t : List ℕ} {found : Found} where
 
 -- a surface's record
 surface-bytes : (v : Json) → layRec (rec 7 (laySurface (surfaceNamed (textIn (find "type" v))))) ≡ surfaceBytes v
-unfolding surfaceBytes surfaceOf surfaceRecs each typeText
+unfolding surfaceBytes surfaceOf surfaceRecs concatMap typeText
 surface-bytes v = ap (λ w. layRec (rec 7 (laySurface (surfaceNamed w)))) (type-text v) ∙ sym (append-nil _)
 
 pub surface-wrote : {x t : List ℕ} {i : ℕ} {found : Found} {q : Quote} {d₀ d d′ : List ℕ} {at body end : ℕ}

@@ -1,4 +1,4 @@
--- What `search` is handed to close what the functions leave. Assumes nothing.
+-- What `search` is handed to close what the functions leave.
 use borrow.Author.Needs.{needs}
 use Rattle.fields.specs.Laws.{at-node, at-room, at-onward, sought-in, string-node}
 use Rattle.ids.proofs.Rules.{member-onward, member-text, text-first, text-second, text-some, text-fits, text-span}

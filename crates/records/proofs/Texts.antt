@@ -1,4 +1,4 @@
--- Strings that were found, a lod and a surface's type, from what the code's tests and callees say. Assumes nothing.
+-- Strings that were found, a lod and a surface's type, from what the code's tests and callees say.
 use Prim.Native.Nat.{ℕ, _+_, _-_, _*_, _≤_, _<_}
 use native.Mathlib.Omega.{arith}
 use mathlib.Core.Path.{_≡_, refl, sym, ap, _∙_}
@@ -21,7 +21,7 @@ use Rattle.nodes.specs.declared.Found.the-variants.{At, Nothing}
 use Rattle.fields.specs.Fields.{textIn}
 use Rattle.fields.specs.Says.{StringNode}
 use Rattle.fields.specs.Laws.{of-none, of-some, string-span, string-text, other-text}
-use Rattle.model.specs.Code.{le}
+use Rattle.utf8.specs.Bytes.{le}
 use Rattle.model.specs.Model.{laySurface, lodCode, minorCode}
 use Rattle.model.specs.Read.{surfaceNamed, lodOf, minorOf}
 use Rattle.writer.specs.Writes.{Writes}

@@ -1,4 +1,4 @@
--- City objects and the whole sheet. Assumes nothing.
+-- City objects and the whole sheet.
 use Prim.Native.Nat.{ℕ, zero, suc, _+_, _-_, _≤_, _<_}
 use native.Mathlib.Omega.{arith}
 use native.Mathlib.Numerals.{add-one}
@@ -16,7 +16,7 @@ use Rattle.fields.specs.Fields.{objectsOf}
 use Rattle.fields.specs.declared.Index.{Index}
 use Rattle.ids.specs.Says.{Offsets, MemberNode, namesOf}
 use Rattle.ids.proofs.Rules.{nobody}
-use Rattle.model.specs.Code.{each, All}
+use Rattle.model.specs.Code.{concatMap, All}
 use Rattle.writer.specs.Writes.{Writes, Closes}
 use Rattle.writer.specs.Laws.{nothing, then, as-bytes}
 use Rattle.arrays.specs.Fits.{Elements, Triple, Coordinate}
@@ -59,7 +59,7 @@ pub record Objecting (x t offsets : List ℕ) (count k : ℕ) (d₀ d : List ℕ
   pub within : k ≤ count
   pub room : length d ≡ length d₀
   pub done : (ms : List Member) → Offsets x t ms offsets count → List ℕ
-  pub all-is : (ms : List Member) (o : Offsets x t ms offsets count) → each (objectBytes (namesOf ms)) ms ≡ done ms o ++ each (objectBytes (namesOf ms)) (drop k ms)
+  pub all-is : (ms : List Member) (o : Offsets x t ms offsets count) → concatMap (objectBytes (namesOf ms)) ms ≡ done ms o ++ concatMap (objectBytes (namesOf ms)) (drop k ms)
   pub wrote : (ms : List Member) (o : Offsets x t ms offsets count) → Writes (done ms o) d₀ d to at
 
 module _ {x t offsets : List ℕ} {count : ℕ} where
@@ -77,7 +77,7 @@ module _ {x t offsets : List ℕ} {count : ℕ} where
     objecting-fits l e = rw e (p .placed .fits k l)
 
     pub objecting-turn : {own : ℕ} {d′ : List ℕ} {r : ℕ} → k < count → own ≡ getD offsets k 0 → ObjectWrote x t offsets count own d d′ at r → Objecting x t offsets count (k + 1) d₀ d′ to r
-    unfolding each
+    unfolding concatMap
     objecting-turn {own} {d′} {r} l e w = record {
       placed = p .placed;
       within = omega arith;
@@ -86,16 +86,16 @@ module _ {x t offsets : List ℕ} {count : ℕ} where
       all-is = λ ms o.
           let f = objectBytes (namesOf ms) in
           let c : drop k ms ≡ getD ms k nobody ∷ drop (k + 1) ms = rw (drop-cons ms k nobody (omega (arith, o .all)), add-one k) in
-          p .all-is ms o ∙ ap (λ l. p .done ms o ++ each f l) c ∙ sym (append-assoc (p .done ms o) (f (getD ms k nobody)) (each f (drop (k + 1) ms)));
+          p .all-is ms o ∙ ap (λ l. p .done ms o ++ concatMap f l) c ∙ sym (append-assoc (p .done ms o) (f (getD ms k nobody)) (concatMap f (drop (k + 1) ms)));
       wrote = λ ms o. then (p .wrote ms o) (w .is ms o (getD ms k nobody) (rw e (o .each k nobody l)));
     }
 
     pub objecting-done : count ≤ k → ObjectsWrote x t offsets count d₀ d to at
-    unfolding each
+    unfolding concatMap
     objecting-done h = record {
       is = λ ms o.
           let c : drop k ms ≡ [] = drop-of-length-le ms {i = k} (omega (arith, o .all)) in
-          as-bytes (sym (p .all-is ms o ∙ ap (λ l. p .done ms o ++ each (objectBytes (namesOf ms)) l) c ∙ append-nil (p .done ms o))) (p .wrote ms o);
+          as-bytes (sym (p .all-is ms o ∙ ap (λ l. p .done ms o ++ concatMap (objectBytes (namesOf ms)) l) c ∙ append-nil (p .done ms o))) (p .wrote ms o);
     }
 
 -- ---- the whole sheet

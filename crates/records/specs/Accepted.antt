@@ -1,4 +1,4 @@
--- A tree in which rules 7 to 14 find no fault, of a text that is not too long, is as the writers ask. Assumes nothing.
+-- A tree in which rules 7 to 14 find no fault, of a text that is not too long, is as the writers ask.
 use Prim.Native.Nat.{ℕ, zero, suc, _^_, _≤_}
 use Prim.Native.String.{String}
 use native.Mathlib.Omega.{arith}
@@ -15,8 +15,8 @@ use Rattle.words.specs.Words.{geometryWords, objectWords, codeOf, is, isLod, de
 use Rattle.json.specs.Tree.{Json}
 use Rattle.json.specs.Machine.{read, reads}
 use Rattle.nodes.specs.Access.{isNumberValue, isNullValue, isArrayValue, elements, members, Member, numeralOf, find}
-use Rattle.shapes.specs.Checks.{Check, unless, all, on, at, forEach, each, values, isObject, isString, isNumber, isArray, isSome, needs, text}
-use Rattle.shapes.specs.Shapes.{isIntegerValue, holdsThree, isPair, inPairRange, coordinate, vertex, shaped, near, forBoth, matches}
+use Rattle.shapes.specs.Checks.{Check, unless, all, on, at, forEach, eachElement, values, objectKind, stringKind, numberKind, arrayKind, isSome, needs, text}
+use Rattle.shapes.specs.Shapes.{isIntegerValue, threeEntries, pairRange, coordinate, vertex, shaped, ranged, forBoth, matches}
 use Rattle.fields.specs.Fields.{textIn, typeText, countIn}
 use Rattle.schema.specs.Schema.{isGeometryType, geometryType, lod, boundaries, surfaces, semantics, needsLod, geometry, geometries, links, cityObject, cityObjects, threePairs, transform, vertices, cityJson}
 use Rattle.schema.specs.Schema as schema
@@ -24,7 +24,7 @@ use Rattle.model.specs.Code.{All}
 use Rattle.model.specs.Read.{get}
 use Rattle.model.specs.Size.{size, get-size, elements-within, members-within, find-within, count-within}
 use Rattle.sheets.specs.Clear.{nil-left, nil-right, cond-right, kept, implied, first-of, is-string, text-ok, numeral-ok, clear, has, found, at-some, all-both, each-clear, type-text, counted, objects-members}
-use Rattle.sheets.specs.Numbers.{near-below, matches-clear, coordinate-clear, vertex-clear}
+use Rattle.sheets.specs.Numbers.{ranged-below, matches-clear, coordinate-clear, vertex-clear}
 use Rattle.sheets.specs.Short.{tree-within}
 use Rattle.sheets.specs.Faultless.{geometry-type-good, lod-clear, boundary-clear, values-clear, geometryChecks, objectChecks, rootChecks, objects-clear}
 use Rattle.arrays.specs.Fits.{Pair, Coordinate, Index, Value, Elements, Triple, Leaves}
@@ -47,9 +47,9 @@ module _ (c : Check) (P : Json → Type 0) (one : Fit c P) where
   elements-fit v h e = all-both Small (λ w. c w ≡ []) P one (elements v) (elements-within 65535 v h) (each-clear c (elements v) e)
 
   -- an array
-  array-fits : Fit (all (isArray ∷ each c ∷ [])) (Elements P)
-  unfolding each
-  array-fits v h e = elements-fit v h (clear (isArray ∷ each c ∷ []) v e .1 .0)
+  array-fits : Fit (all (arrayKind ∷ eachElement c ∷ [])) (Elements P)
+  unfolding eachElement
+  array-fits v h e = elements-fit v h (clear (arrayKind ∷ eachElement c ∷ []) v e .1 .0)
 
   -- a member that has to be there
   has-fits : (n : String) (v : Json) → Small v → isSome (find n v) ≡ true → at n c v ≡ [] → Has P n v
@@ -80,40 +80,40 @@ below-wider n (negsuc k) h e = e
 
 -- there are at most n vertices, or surfaces
 module _ (n : ℕ) (most : n ≤ 2 ^ 32) where
-  index-fits : (v : Json) → isIntegerValue v ≡ true → near n zero v ≡ [] → Index v
+  index-fits : (v : Json) → isIntegerValue v ≡ true → ranged n zero v ≡ [] → Index v
   unfolding Index
-  index-fits v h e = (h, below-wider n (integer (numeralOf v)) most (near-below n v h e))
+  index-fits v h e = (h, below-wider n (integer (numeralOf v)) most (ranged-below n v h e))
 
   -- a boundary
-  boundary-fits : (d : ℕ) (v : Json) → shaped d v ≡ [] → near n d v ≡ [] → Leaves Index d v
-  unfolding Leaves Elements shaped near
+  boundary-fits : (d : ℕ) (v : Json) → shaped d v ≡ [] → ranged n d v ≡ [] → Leaves Index d v
+  unfolding Leaves Elements shaped ranged
   boundary-fits zero v s e = index-fits v (kept (isIntegerValue v) 12 v s) e
   boundary-fits (suc d) v s e =
-      all-both (λ w. shaped d w ≡ []) (λ w. near n d w ≡ []) (Leaves Index d) (boundary-fits d) (elements v) (each-clear (shaped d) (elements v) (nil-right (unless (isArrayValue v) 12 v) _ s)) (each-clear (near n d) (elements v) e)
+      all-both (λ w. shaped d w ≡ []) (λ w. ranged n d w ≡ []) (Leaves Index d) (boundary-fits d) (elements v) (each-clear (shaped d) (elements v) (nil-right (unless (isArrayValue v) 12 v) _ s)) (each-clear (ranged n d) (elements v) e)
 
   -- values over a boundary
-  values-fit : (d : ℕ) (b v : Json) → matches d b v ≡ [] → near n d v ≡ [] → Leaves Value d v
-  unfolding Leaves Elements Value matches near
+  values-fit : (d : ℕ) (b v : Json) → matches d b v ≡ [] → ranged n d v ≡ [] → Leaves Value d v
+  unfolding Leaves Elements Value matches ranged
   values-fit zero b v m e = λ q. index-fits v (first-of (isIntegerValue v) (isNullValue v) (kept _ 12 v m) q) e
-  values-fit (suc d) b v m e = let (l, f) = matches-clear d b v m in of (values-fit d) (elements b) (elements v) l f (each-clear (near n d) (elements v) e)
+  values-fit (suc d) b v m e = let (l, f) = matches-clear d b v m in of (values-fit d) (elements b) (elements v) l f (each-clear (ranged n d) (elements v) e)
     where
-      of : ((c w : Json) → matches d c w ≡ [] → near n d w ≡ [] → Leaves Value d w)
-          → (bs vs : List Json) → length bs ≡ length vs → forBoth (matches d) bs vs ≡ [] → All (λ w. near n d w ≡ []) vs → All (Leaves Value d) vs
+      of : ((c w : Json) → matches d c w ≡ [] → ranged n d w ≡ [] → Leaves Value d w)
+          → (bs vs : List Json) → length bs ≡ length vs → forBoth (matches d) bs vs ≡ [] → All (λ w. ranged n d w ≡ []) vs → All (Leaves Value d) vs
       of one bs [] l f a = tt
       of one [] (w ∷ vs) l f a = absurd (omega arith)
       of one (c ∷ bs) (w ∷ vs) l f a = (one c w (nil-left (matches d c w) _ f) (a .0), of one bs vs (omega arith) (nil-right (matches d c w) _ f) (a .1))
 
 -- three numbers of a transform
 pairs-fit : Fit threePairs (Triple Pair)
-unfolding threePairs Triple Elements Pair each isNumber holdsThree inPairRange isArray
+unfolding threePairs Triple Elements Pair eachElement numberKind threeEntries pairRange arrayKind
 pairs-fit v h e =
-    let (a, (n, (t, (p, r)))) = clear (isArray ∷ each isNumber ∷ holdsThree ∷ each inPairRange ∷ []) v e in (
+    let (a, (n, (t, (p, r)))) = clear (arrayKind ∷ eachElement numberKind ∷ threeEntries ∷ eachElement pairRange ∷ []) v e in (
       eqb-true _ _ (implied (isArrayValue v) (eqb (length (elements v)) 3) (kept (isArrayValue v) 7 v a) (kept _ 12 v t)),
-      all-both (λ w. isNumber w ≡ []) (λ w. inPairRange w ≡ []) Pair one (elements v) (each-clear isNumber (elements v) n) (each-clear inPairRange (elements v) p),
+      all-both (λ w. numberKind w ≡ []) (λ w. pairRange w ≡ []) Pair one (elements v) (each-clear numberKind (elements v) n) (each-clear pairRange (elements v) p),
     )
   where
-    one : (w : Json) → isNumber w ≡ [] → inPairRange w ≡ [] → Pair w
-    one w n p = let k = kept (isNumberValue w) 7 w n in (k, numeral-ok 13 (λ raw. isPair (pairOf raw)) w k p)
+    one : (w : Json) → numberKind w ≡ [] → pairRange w ≡ [] → Pair w
+    one w n p = let k = kept (isNumberValue w) 7 w n in (k, numeral-ok 13 (λ raw. isSome (pairOf raw)) w k p)
 
 -- a vertex
 vertex-fits : Fit vertex (Triple Coordinate)
@@ -125,10 +125,10 @@ vertex-fits v h e =
 -- ---- geometries
 
 -- its type is no `GeometryInstance`, so it has a lod
-lod-there : (object code : ℕ) (v : Json) → isObject v ≡ [] → needsLod v ≡ [] → geometryType object code (get "type" v) ≡ [] → isSome (find "lod" v) ≡ true
+lod-there : (object code : ℕ) (v : Json) → objectKind v ≡ [] → needsLod v ≡ [] → geometryType object code (get "type" v) ≡ [] → isSome (find "lod" v) ≡ true
 unfolding needsLod geometryType
 lod-there object code v o e t =
-    let (s, (a, (b, r))) = clear (isString ∷ text 10 isGeometryType ∷ text 11 (λ w. not (is "GeometryInstance" w)) ∷ text 14 (λ w. eqb code 0 || isPermitted object code) ∷ []) (get "type" v) t in
+    let (s, (a, (b, r))) = clear (stringKind ∷ text 10 isGeometryType ∷ text 11 (λ w. not (is "GeometryInstance" w)) ∷ text 14 (λ w. eqb code 0 || isPermitted object code) ∷ []) (get "type" v) t in
     let f = not-true _ (text-ok 11 (λ w. not (is "GeometryInstance" w)) (get "type" v) s b) in
     has ("lod" ∷ []) v o (cond-right _ [] (needs ("lod" ∷ []) v) (ap (is "GeometryInstance") (type-text v) ∙ f) e) .0
 
@@ -141,7 +141,7 @@ semantics-fit : (c : ℕ) → 1 ≤ c → (b : Json) → shaped (depth c) b ≡ 
 unfolding semantics
 semantics-fit c k b s v h e =
     let n = countIn (find "surfaces" v) in
-    let (o, (d, (f, (x, r)))) = clear (isObject ∷ needs ("surfaces" ∷ "values" ∷ []) ∷ at "surfaces" surfaces ∷ at "values" (schema.values n c (some b)) ∷ []) v e in
+    let (o, (d, (f, (x, r)))) = clear (objectKind ∷ needs ("surfaces" ∷ "values" ∷ []) ∷ at "surfaces" surfaces ∷ at "values" (schema.values n c (some b)) ∷ []) v e in
     record { values = has-fits (schema.values n c (some b)) (Leaves Value (valuesDepth c)) one "values" v h (has ("surfaces" ∷ "values" ∷ []) v o d .1 .0) x }
   where
     one : Fit (schema.values (countIn (find "surfaces" v)) c (some b)) (Leaves Value (valuesDepth c))
@@ -166,7 +166,7 @@ geometry-fits n most object v h e =
 
 -- ---- the root
 
-string-fits : Fit isString Text
+string-fits : Fit stringKind Text
 unfolding Text
 string-fits v h e = is-string v e
 
@@ -176,15 +176,15 @@ object-fits n most v h e =
     let c = codeOf objectWords (typeText v) in
     let (o, (d, (t, (a, (k, (p, (g, r))))))) = clear (objectChecks n v) v e in
     record {
-      children = perhaps-fits links (Elements Text) (array-fits isString Text string-fits) "children" v h k;
-      parents = perhaps-fits links (Elements Text) (array-fits isString Text string-fits) "parents" v h p;
+      children = perhaps-fits links (Elements Text) (array-fits stringKind Text string-fits) "children" v h k;
+      parents = perhaps-fits links (Elements Text) (array-fits stringKind Text string-fits) "parents" v h p;
       geometries = perhaps-fits (geometries n c) (Elements GeometryFits) (array-fits (geometry n c) GeometryFits (geometry-fits n most c)) "geometry" v h g;
     }
 
 transform-fits : Fit transform TransformFits
 unfolding transform
 transform-fits v h e =
-    let (o, (n, (s, (t, r)))) = clear (isObject ∷ needs ("scale" ∷ "translate" ∷ []) ∷ at "scale" threePairs ∷ at "translate" threePairs ∷ []) v e in
+    let (o, (n, (s, (t, r)))) = clear (objectKind ∷ needs ("scale" ∷ "translate" ∷ []) ∷ at "scale" threePairs ∷ at "translate" threePairs ∷ []) v e in
     let (a, (b, z)) = has ("scale" ∷ "translate" ∷ []) v o n in
     record { scale = has-fits threePairs (Triple Pair) pairs-fit "scale" v h a s; translate = has-fits threePairs (Triple Pair) pairs-fit "translate" v h b t }
 

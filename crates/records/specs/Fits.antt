@@ -1,4 +1,4 @@
--- What the writers ask of the values of a text; those of an accepted text are so (`Accepted`). Assumes nothing: these are definitions.
+-- What the writers ask of the values of a text; those of an accepted text are so (`Accepted`).
 use mathlib.Core.Path.{_≡_}
 use mathlib.Core.Bool.{true}
 use mathlib.Core.Option.{some}

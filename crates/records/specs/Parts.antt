@@ -1,4 +1,4 @@
--- A sheet is the bytes of its parts, one after the other. Assumes nothing.
+-- A sheet is the bytes of its parts, one after the other.
 use mathlib.Core.Path.{_≡_, refl, sym, ap, _∙_}
 use mathlib.Core.List.{List, [], _∷_, _++_, map, append-assoc, append-nil}
 use mathlib.Core.Option.{Option, none, some, Option·map}
@@ -7,9 +7,10 @@ use Rattle.json.specs.Tree.{Json}
 use Rattle.nodes.specs.Access.{Member, elements, members, nameOf, textOf, find}
 use Rattle.fields.specs.Fields.{textIn, objectsOf}
 use Rattle.words.specs.Words.{objectWords, geometryWords, codeOf, depth, valuesDepth}
-use Rattle.model.specs.Code.{le, signed, each}
+use Rattle.utf8.specs.Bytes.{le}
+use Rattle.model.specs.Code.{signed, concatMap}
 use Rattle.model.specs.Weigh.{each-each}
-use Rattle.model.specs.Model.{Rec, rec, layRec, layThree, layDecimal, lodCode, layNest, layValues, surfaceRecs, semanticsRecs, geometryRecs, objectRecs, modelRecs, layModel, numberOf, idsOf, numberObject, numberModel, sheetOf}
+use Rattle.model.specs.Model.{Rec, rec, layRec, layThree, layDecimal, lodCode, layNest, layValues, surfaceRecs, semanticsRecs, geometryRecs, objectRecs, modelRecs, layModel, objectNumber, idsOf, numberObject, numberModel, sheetOf}
 use Rattle.model.specs.Read.{get, orNull, decimalOf, integerOf, indexOf, valueOf, threeOf, nestOf, lodOf, surfaceOf, semanticsOf, geometryOf, objectOf, modelOf}
 use Rattle.arrays.specs.Parts.{each-map}
 use Rattle.sheets.specs.Clear.{type-text, objects-members}
@@ -19,10 +20,10 @@ use Rattle.records.specs.Bytes.{eachIn, surfaceBytes, valuesBytes, seman
 
 -- ---- lists
 
-each-++ : {A : Type 0} (enc : A → List ℕ) (l m : List A) → each enc (l ++ m) ≡ each enc l ++ each enc m
-unfolding each
+each-++ : {A : Type 0} (enc : A → List ℕ) (l m : List A) → concatMap enc (l ++ m) ≡ concatMap enc l ++ concatMap enc m
+unfolding concatMap
 each-++ enc [] m = refl
-each-++ enc (a ∷ l) m = ap (λ r. enc a ++ r) (each-++ enc l m) ∙ sym (append-assoc (enc a) (each enc l) (each enc m))
+each-++ enc (a ∷ l) m = ap (λ r. enc a ++ r) (each-++ enc l m) ∙ sym (append-assoc (enc a) (concatMap enc l) (concatMap enc m))
 
 -- the text of a member that may be absent
 text-get : (name : _) (v : Json) → textOf (get name v) ≡ textIn (find name v)
@@ -36,17 +37,17 @@ text-get name v = go (find name v)
 -- ---- parts
 
 pub semantics-parts : (code : ℕ) (v : Json) → semanticsBytes code v ≡ eachIn surfaceBytes (find "surfaces" v) ++ valuesBytes code (get "values" v)
-unfolding semanticsBytes semanticsRecs semanticsOf valuesBytes eachIn surfaceBytes get each
+unfolding semanticsBytes semanticsRecs semanticsOf valuesBytes eachIn surfaceBytes get concatMap
 semantics-parts code v =
     let vs = elements (orNull (find "surfaces" v)) in
     let r = rec 8 (layValues (valuesDepth code) (nestOf valueOf (valuesDepth code) (get "values" v))) in
-    each-++ layRec (each surfaceRecs (map surfaceOf vs)) (r ∷ [])
-    ∙ ap (λ l. l ++ each layRec (r ∷ [])) (each-each surfaceRecs layRec (map surfaceOf vs) ∙ each-map (λ s. each layRec (surfaceRecs s)) surfaceOf vs)
-    ∙ ap (λ l. each surfaceBytes vs ++ l) (append-nil (layRec r))
+    each-++ layRec (concatMap surfaceRecs (map surfaceOf vs)) (r ∷ [])
+    ∙ ap (λ l. l ++ concatMap layRec (r ∷ [])) (each-each surfaceRecs layRec (map surfaceOf vs) ∙ each-map (λ s. concatMap layRec (surfaceRecs s)) surfaceOf vs)
+    ∙ ap (λ l. concatMap surfaceBytes vs ++ l) (append-nil (layRec r))
 
 -- semantics that may be absent, of a geometry
-semantics-perhaps : (code : ℕ) (o : Option Json) → each layRec (semanticsRecs code (Option·map (semanticsOf code) o)) ≡ semanticsIn code o
-unfolding semanticsIn semanticsRecs semanticsBytes each
+semantics-perhaps : (code : ℕ) (o : Option Json) → concatMap layRec (semanticsRecs code (Option·map (semanticsOf code) o)) ≡ semanticsIn code o
+unfolding semanticsIn semanticsRecs semanticsBytes concatMap
 semantics-perhaps code none = refl
 semantics-perhaps code (some v) = refl
 
@@ -54,23 +55,23 @@ semantics-perhaps code (some v) = refl
 geometryFrom : ℕ → List ℕ → Json → List ℕ
 geometryFrom code lod v =
     layRec (rec 6 (le 2 code ++ le 2 (lodCode (lodOf lod)) ++ layNest (depth code) (nestOf indexOf (depth code) (get "boundaries" v))))
-    ++ each layRec (semanticsRecs code (Option·map (semanticsOf code) (find "semantics" v)))
+    ++ concatMap layRec (semanticsRecs code (Option·map (semanticsOf code) (find "semantics" v)))
 
 pub geometry-parts : (v : Json) → geometryBytes v ≡ shapeBytes (geometryCode v) v ++ semanticsIn (geometryCode v) (find "semantics" v)
-unfolding geometryBytes geometryRecs geometryOf shapeBytes geometryCode each geometryFrom
+unfolding geometryBytes geometryRecs geometryOf shapeBytes geometryCode concatMap geometryFrom
 geometry-parts v =
     let c = sym (type-text v) in
     let l = text-get "lod" v in
     (λ i. geometryFrom (codeOf geometryWords (c i)) (l i) v) ∙ ap (λ r. shapeBytes (geometryCode v) v ++ r) (semantics-perhaps (geometryCode v) (find "semantics" v))
 
 -- the numbers of linked objects
-numbers-map : (ids : List (List ℕ)) (vs : List Json) → each (le 4) (map (numberOf ids) (map textOf vs)) ≡ each (λ s. le 4 (numberOf ids (textOf s))) vs
-numbers-map ids vs = each-map (le 4) (numberOf ids) (map textOf vs) ∙ each-map (λ t. le 4 (numberOf ids t)) textOf vs
+numbers-map : (ids : List (List ℕ)) (vs : List Json) → concatMap (le 4) (map (objectNumber ids) (map textOf vs)) ≡ concatMap (λ s. le 4 (objectNumber ids (textOf s))) vs
+numbers-map ids vs = each-map (le 4) (objectNumber ids) (map textOf vs) ∙ each-map (λ t. le 4 (objectNumber ids t)) textOf vs
 
 -- three records and those after them
-three-records : (p q r : Rec) (l : List Rec) → each layRec (p ∷ q ∷ r ∷ l) ≡ layRec p ++ layRec q ++ layRec r ++ each layRec l
-unfolding each
-three-records p q r l = sym (append-assoc (layRec p ++ layRec q) (layRec r) (each layRec l) ∙ append-assoc (layRec p) (layRec q) (layRec r ++ each layRec l))
+three-records : (p q r : Rec) (l : List Rec) → concatMap layRec (p ∷ q ∷ r ∷ l) ≡ layRec p ++ layRec q ++ layRec r ++ concatMap layRec l
+unfolding concatMap
+three-records p q r l = sym (append-assoc (layRec p ++ layRec q) (layRec r) (concatMap layRec l) ∙ append-assoc (layRec p) (layRec q) (layRec r ++ concatMap layRec l))
 
 pub object-parts : (ids : List (List ℕ)) (m : Member)
     → objectBytes ids m ≡ identityBytes m ++ layRec (rec 4 (numbersIn ids (find "children" (m .1)))) ++ layRec (rec 5 (numbersIn ids (find "parents" (m .1)))) ++ eachIn geometryBytes (find "geometry" (m .1))
@@ -81,12 +82,12 @@ object-parts ids m =
     let c = numbers-map ids (elements (orNull (find "children" v))) in
     let p = numbers-map ids (elements (orNull (find "parents" v))) in
     let gs = elements (orNull (find "geometry" v)) in
-    let g = each-each geometryRecs layRec (map geometryOf gs) ∙ each-map (λ g. each layRec (geometryRecs g)) geometryOf gs in
+    let g = each-each geometryRecs layRec (map geometryOf gs) ∙ each-map (λ g. concatMap layRec (geometryRecs g)) geometryOf gs in
     three-records
     (rec 3 (le 2 (codeOf objectWords (textOf (get "type" v))) ++ nameOf m))
-    (rec 4 (each (le 4) (map (numberOf ids) (map textOf (elements (get "children" v))))))
-    (rec 5 (each (le 4) (map (numberOf ids) (map textOf (elements (get "parents" v))))))
-    (each geometryRecs (map geometryOf gs))
+    (rec 4 (concatMap (le 4) (map (objectNumber ids) (map textOf (elements (get "children" v))))))
+    (rec 5 (concatMap (le 4) (map (objectNumber ids) (map textOf (elements (get "parents" v))))))
+    (concatMap geometryRecs (map geometryOf gs))
     ∙ λ i. layRec (rec 3 (le 2 (codeOf objectWords (t i)) ++ nameOf m)) ++ layRec (rec 4 (c i)) ++ layRec (rec 5 (p i)) ++ g i
 
 -- the IDs of the objects of a model
@@ -96,26 +97,26 @@ ids-names [] = refl
 ids-names (m ∷ ms) = ap (λ l. nameOf m ∷ l) (ids-names ms)
 
 -- two records, some, and one more
-ended : (p q : Rec) (l : List Rec) (r : Rec) → each layRec (p ∷ q ∷ (l ++ r ∷ [])) ≡ layRec p ++ layRec q ++ each layRec l ++ layRec r
-unfolding each
+ended : (p q : Rec) (l : List Rec) (r : Rec) → concatMap layRec (p ∷ q ∷ (l ++ r ∷ [])) ≡ layRec p ++ layRec q ++ concatMap layRec l ++ layRec r
+unfolding concatMap
 ended p q l r =
-    ap (λ m. layRec p ++ (layRec q ++ m)) (each-++ layRec l (r ∷ []) ∙ ap (λ m. each layRec l ++ m) (append-nil (layRec r)))
-    ∙ sym (append-assoc (layRec p ++ layRec q) (each layRec l) (layRec r) ∙ append-assoc (layRec p) (layRec q) (each layRec l ++ layRec r))
+    ap (λ m. layRec p ++ (layRec q ++ m)) (each-++ layRec l (r ∷ []) ∙ ap (λ m. concatMap layRec l ++ m) (append-nil (layRec r)))
+    ∙ sym (append-assoc (layRec p ++ layRec q) (concatMap layRec l) (layRec r) ∙ append-assoc (layRec p) (layRec q) (concatMap layRec l ++ layRec r))
 
-pub sheet-parts : (v : Json) → sheetOf (modelOf v) ≡ transformBytes (get "transform" v) ++ verticesBytes (get "vertices" v) ++ each (objectBytes (namesOf (objectsOf v))) (objectsOf v) ++ layRec (rec 9 [])
+pub sheet-parts : (v : Json) → sheetOf (modelOf v) ≡ transformBytes (get "transform" v) ++ verticesBytes (get "vertices" v) ++ concatMap (objectBytes (namesOf (objectsOf v))) (objectsOf v) ++ layRec (rec 9 [])
 unfolding sheetOf layModel modelRecs numberModel modelOf transformBytes verticesBytes objectBytes
 sheet-parts v =
     let ms = members (get "CityObjects" v) in
     let vs = elements (get "vertices" v) in
     let ids = idsOf (map objectOf ms) in
     let w = each-map (layThree (signed 4)) (threeOf integerOf) vs in
-    let o = each-each objectRecs layRec (map (numberObject ids) (map objectOf ms)) ∙ each-map (λ a. each layRec (objectRecs a)) (numberObject ids) (map objectOf ms) ∙ each-map (λ a. each layRec (objectRecs (numberObject ids a))) objectOf ms in
+    let o = each-each objectRecs layRec (map (numberObject ids) (map objectOf ms)) ∙ each-map (λ a. concatMap layRec (objectRecs a)) (numberObject ids) (map objectOf ms) ∙ each-map (λ a. concatMap layRec (objectRecs (numberObject ids a))) objectOf ms in
     let n = ids-names ms in
     let e = sym (objects-members v) in
     ended
     (rec 1 (layThree layDecimal (threeOf decimalOf (get "scale" (get "transform" v))) ++ layThree layDecimal (threeOf decimalOf (get "translate" (get "transform" v)))))
-    (rec 2 (each (layThree (signed 4)) (map (threeOf integerOf) vs)))
-    (each objectRecs (map (numberObject ids) (map objectOf ms))) (rec 9 [])
+    (rec 2 (concatMap (layThree (signed 4)) (map (threeOf integerOf) vs)))
+    (concatMap objectRecs (map (numberObject ids) (map objectOf ms))) (rec 9 [])
     ∙ (λ i. transformBytes (get "transform" v) ++ layRec (rec 2 (w i)) ++ o i ++ layRec (rec 9 []))
-    ∙ (λ i. transformBytes (get "transform" v) ++ verticesBytes (get "vertices" v) ++ each (objectBytes (n i)) ms ++ layRec (rec 9 []))
-    ∙ λ i. transformBytes (get "transform" v) ++ verticesBytes (get "vertices" v) ++ each (objectBytes (namesOf (e i))) (e i) ++ layRec (rec 9 [])
+    ∙ (λ i. transformBytes (get "transform" v) ++ verticesBytes (get "vertices" v) ++ concatMap (objectBytes (n i)) ms ++ layRec (rec 9 []))
+    ∙ λ i. transformBytes (get "transform" v) ++ verticesBytes (get "vertices" v) ++ concatMap (objectBytes (namesOf (e i))) (e i) ++ layRec (rec 9 [])

@@ -1,4 +1,4 @@
--- What the writers of records ask and tell. Assumes nothing: these are definitions.
+-- What the writers of records ask and tell.
 use mathlib.Core.Path.{_≡_}
 use mathlib.Core.List.{List}
 use mathlib.Core.Option.{Option, some}
@@ -14,7 +14,7 @@ use Rattle.fields.specs.Fields.{textIn, objectsOf}
 use Rattle.fields.specs.Says.{MemberAt, Indexed}
 use Rattle.fields.specs.declared.Index.{Index}
 use Rattle.ids.specs.Says.{Offsets, Objects, namesOf}
-use Rattle.model.specs.Code.{each}
+use Rattle.model.specs.Code.{concatMap}
 use Rattle.model.specs.Model.{layRec, rec, sheetOf}
 use Rattle.model.specs.Read.{modelOf}
 use Rattle.writer.specs.Writes.{Writes}
@@ -56,7 +56,7 @@ pub record Placed (x t offsets : List ℕ) (count : ℕ) : Type 0 where
 
 -- the records of all objects were to be written
 pub record ObjectsWrote (x t offsets : List ℕ) (count : ℕ) (d₀ d : List ℕ) (to r : ℕ) : Type 0 where
-  pub is : (ms : List Member) → Offsets x t ms offsets count → Writes (each (objectBytes (namesOf ms)) ms) d₀ d to r
+  pub is : (ms : List Member) → Offsets x t ms offsets count → Writes (concatMap (objectBytes (namesOf ms)) ms) d₀ d to r
 
 -- a text as the writers ask stands at the node 0, with the index of its objects
 pub record Ready (x t : List ℕ) (index : Index) : Type 0 where

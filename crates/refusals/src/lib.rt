@@ -1,9 +1,9 @@
 // Refusals: the rules of document 01 with their numbers, and the refusal of a fault.
 ghost use Prim.Native.Nat.{_*_, _/_, _%_, _≤_, _<_};
 ghost use mathlib.Core.Path.{_≡_};
-ghost use Rattle.nodes.specs.Faults.{none, ruleOf, placeIn};
+ghost use Rattle.nodes.specs.Faults.{noFault, ruleOf, placeIn};
 ghost use Rattle.verdict.specs.Verdict.{refused};
-ghost use Rattle.refusals.specs.Refusals.{numberOf, refusal};
+ghost use Rattle.refusals.specs.Refusals.{ruleNumber, refusal};
 
 // The rules of document 01 that a text can break.
 pub enum Broken {
@@ -36,7 +36,7 @@ pub struct Refusal {
 // The rule of a number from 5 to 17.
 fn rule_of(number: u32) -> Broken
     requires { ⌜ (5 ≤ number) × (number < 18) ⌝ }
-    ensures { λ r. ⌜ numberOf r ≡ number ⌝ }
+    ensures { λ r. ⌜ ruleNumber r ≡ number ⌝ }
 {
     match number {
         5 => Broken::UnpairedSurrogate,
@@ -57,7 +57,7 @@ fn rule_of(number: u32) -> Broken
 
 // The refusal of a fault.
 pub fn refuse_fault(fault: u32) -> Refusal
-    requires { ⌜ (5 * 65536 ≤ fault) × (fault < none) ⌝ }
+    requires { ⌜ (5 * 65536 ≤ fault) × (fault < noFault) ⌝ }
     ensures { λ r. ⌜ refusal r ≡ refused (ruleOf fault) (placeIn fault) ⌝ }
 {
     Refusal {
@@ -68,7 +68,7 @@ pub fn refuse_fault(fault: u32) -> Refusal
 
 // The paper's number of a rule.
 pub fn number_of(rule: Broken) -> u32
-    ensures { λ r. ⌜ r ≡ numberOf rule ⌝ }
+    ensures { λ r. ⌜ r ≡ ruleNumber rule ⌝ }
 {
     match rule {
         Broken::TooLong => 1,

@@ -1,4 +1,4 @@
--- Filling the index of the city objects. Assumes nothing.
+-- Filling the index of the city objects.
 use Prim.Native.Nat.{ℕ, _+_, _-_, _≤_, _<_, min}
 use native.Mathlib.Omega.{arith}
 use native.Mathlib.Decide.{decLt}
@@ -20,12 +20,12 @@ use Rattle.nodes.specs.Laws.{StringAt, quoted-at, quoted-place, fields-begin, n
 use Rattle.nodes.specs.declared.Found.{Found}
 use Rattle.nodes.specs.declared.Found.the-variants.{At, Nothing}
 use Rattle.fields.specs.Says.{MemberAt, Indexed}
-use Rattle.shapes.specs.Checks.{Check, all, on, at, needs, isObject, eachMember}
+use Rattle.shapes.specs.Checks.{Check, all, on, at, needs, objectKind, eachMember}
 use Rattle.shapes.specs.Says.{Needs}
 use Rattle.shapes.specs.Laws.{all-none, all-then, needs-none, needs-then, members-none, unless-told, unless-yes}
 use Rattle.fields.specs.Fields.{membersIn, countIn, objectsOf}
 use Rattle.fields.specs.declared.Index.{Index}
-use Rattle.schema.specs.Schema.{nameFault, notTooMany, cityObject, cityObjects, word, transform, vertices, cityJson}
+use Rattle.schema.specs.Schema.{nameFault, objectLimit, cityObject, cityObjects, word, transform, vertices, cityJson}
 use Rattle.schema.proofs.Objects.{at-gives}
 use Rattle.schema.specs.Says.{ObjectNode, Extra, Named, FillsAt, IndexedFound, IndexedAt}
 
@@ -184,23 +184,23 @@ extra-named d f = record { members = drop 1024 (members (d .value)); extra = f .
 
 module _ {x t : List ℕ} {i : ℕ} {b : Bool} (n best : ℕ) (g : Gives isObjectValue x t i b) where
   -- another value
-  pub objects-other : {r : ℕ} → not b ≡ true → Gives (λ v. least best (isObject v)) x t i r → Gives (λ v. least best (cityObjects n v)) x t i r
-  unfolding cityObjects notTooMany nameFault least
+  pub objects-other : {r : ℕ} → not b ≡ true → Gives (λ v. least best (objectKind v)) x t i r → Gives (λ v. least best (cityObjects n v)) x t i r
+  unfolding cityObjects objectLimit nameFault least
   objects-other {r} e u =
-      all-then best r isObject (notTooMany ∷ eachMember (cityObject n) ∷ []) u
-      (all-then r r notTooMany (eachMember (cityObject n) ∷ []) (record { is = λ v s. few v (no-members v (sym (g .is v s) ∙ not-true b e)) })
+      all-then best r objectKind (objectLimit ∷ eachMember (cityObject n) ∷ []) u
+      (all-then r r objectLimit (eachMember (cityObject n) ∷ []) (record { is = λ v s. few v (no-members v (sym (g .is v s) ∙ not-true b e)) })
       (all-then r r (eachMember (cityObject n)) [] (members-none (cityObject n) r g e) all-none))
     where
-      few : (v : Json) → members v ≡ [] → r ≡ least r (notTooMany v)
+      few : (v : Json) → members v ≡ [] → r ≡ least r (objectLimit v)
       few v z = rw z
 
   -- an object
   pub objects-told : {a r : ℕ} {index : Index} {extra : Found} → not b ≡ false → FillsAt x t i index extra → ((ms : List Member) → Extra x t ms extra → a ≡ least best (nameFault ms))
       → Gives (λ v. least a (eachMember (cityObject n) v)) x t i r → Gives (λ v. least best (cityObjects n v)) x t i r
-  unfolding cityObjects notTooMany isObject
+  unfolding cityObjects objectLimit objectKind
   objects-told {a} {r} e f m h =
-      all-then best best isObject (notTooMany ∷ eachMember (cityObject n) ∷ []) (unless-told best 7 g (unless-yes best 7 (not-false b e)))
-      (all-then best a notTooMany (eachMember (cityObject n) ∷ []) (record { is = λ v s. m (drop 1024 (members v)) (f .more v s) })
+      all-then best best objectKind (objectLimit ∷ eachMember (cityObject n) ∷ []) (unless-told best 7 g (unless-yes best 7 (not-false b e)))
+      (all-then best a objectLimit (eachMember (cityObject n) ∷ []) (record { is = λ v s. m (drop 1024 (members v)) (f .more v s) })
       (all-then a r (eachMember (cityObject n)) [] h all-none))
 
 -- ---- the root
@@ -208,7 +208,7 @@ module _ {x t : List ℕ} {i : ℕ} {b : Bool} (n best : ℕ) (g : Gives isObjec
 -- the checks of a root with so many vertices
 unfoldable rootWith : ℕ → Check
 rootWith n =
-    all (isObject ∷ needs ("type" ∷ "version" ∷ "transform" ∷ "CityObjects" ∷ "vertices" ∷ [])
+    all (objectKind ∷ needs ("type" ∷ "version" ∷ "transform" ∷ "CityObjects" ∷ "vertices" ∷ [])
     ∷ at "type" (word "CityJSON") ∷ at "version" (word "2.0") ∷ at "transform" transform ∷ at "CityObjects" (cityObjects n) ∷ at "vertices" vertices ∷ [])
 
 root-with : (v : Json) → rootWith (countIn (find "vertices" v)) v ≡ cityJson v
@@ -217,7 +217,7 @@ root-with v = refl
 
 pub root-all : {x t : List ℕ} (best a b c d e f g h l m : ℕ) {count r : ℕ} {kind version frame objects points : Found}
     → Seeks (λ v. find "type" v) x t 0 kind → Seeks (λ v. find "version" v) x t 0 version → Seeks (λ v. find "transform" v) x t 0 frame → Seeks (λ v. find "CityObjects" v) x t 0 objects → Seeks (λ v. find "vertices" v) x t 0 points
-    → Gives (λ v. least best (isObject v)) x t 0 a → Needs x t kind 0 a b → Needs x t version 0 b c → Needs x t frame 0 c d → Needs x t objects 0 d e → Needs x t points 0 e f
+    → Gives (λ v. least best (objectKind v)) x t 0 a → Needs x t kind 0 a b → Needs x t version 0 b c → Needs x t frame 0 c d → Needs x t objects 0 d e → Needs x t points 0 e f
     → GivesFound (λ o. least f (on (word "CityJSON") o)) x t kind g → GivesFound (λ o. least g (on (word "2.0") o)) x t version h → GivesFound (λ o. least h (on transform o)) x t frame l
     → GivesFound countIn x t points count → GivesFound (λ o. least l (on (cityObjects count) o)) x t objects m → GivesFound (λ o. least m (on vertices o)) x t points r
     → Gives (λ v. least best (cityJson v)) x t 0 r
@@ -227,7 +227,7 @@ root-all {x} {t} best a b c d e f g h l m {count} {r} k1 k2 k3 k4 k5 o n1 n2 n3 
   where
     whole : Gives (λ v. least best (rootWith count v)) x t 0 r
     whole =
-        all-then best a isObject _ o
+        all-then best a objectKind _ o
         (all-then a f (needs ("type" ∷ "version" ∷ "transform" ∷ "CityObjects" ∷ "vertices" ∷ [])) _
         (needs-then a b "type" _ k1 n1 (needs-then b c "version" _ k2 n2 (needs-then c d "transform" _ k3 n3 (needs-then d e "CityObjects" _ k4 n4 (needs-then e f "vertices" [] k5 n5 needs-none)))))
         (all-then f g (at "type" (word "CityJSON")) _ (at-gives f "type" (word "CityJSON") k1 w1)

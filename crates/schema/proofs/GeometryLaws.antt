@@ -1,4 +1,4 @@
--- Geometries, their boundaries and their semantics, from what the code's tests say. Assumes nothing.
+-- Geometries, their boundaries and their semantics, from what the code's tests say.
 use Prim.Native.Nat.{ℕ, zero, suc, _+_, _-_, _≤_, min}
 use Prim.Native.String.{String}
 use native.Mathlib.Omega.{arith}
@@ -19,7 +19,7 @@ use Rattle.words.specs.Laws.{one-has-code}
 use Rattle.json.specs.Tree.{Json, Items}
 use Rattle.json.specs.Table.{Sub, null, bool, num, str, arr, obj, Subs, nil, cons}
 use Rattle.nodes.specs.Access.{isStringValue, isArrayValue, isObjectValue, textOf, listed, elements, find}
-use Rattle.nodes.specs.Faults.{fault, least}
+use Rattle.nodes.specs.Faults.{fault, least, noFault}
 use Rattle.nodes.specs.Says.{Node, Sought, Finds, Gives, GivesFound, Seeks}
 use Rattle.nodes.specs.Laws.{least-++, least-min, least-comm, least-le, place-at, place-below}
 use Rattle.nodes.specs.declared.Found.{Found}
@@ -27,8 +27,8 @@ use Rattle.nodes.specs.declared.Found.the-variants.{At, Nothing}
 use Rattle.fields.specs.Fields.{textIn, typeText, countIn}
 use Rattle.fields.specs.Says.{StringNode, CodeOf}
 use Rattle.fields.specs.Laws.{at-node, at-room, at-onward, string-node, string-span, string-text}
-use Rattle.shapes.specs.Checks.{Check, unless, all, on, at, forEach, each, isObject, isString, isArray, isSome, needs, text}
-use Rattle.shapes.specs.Shapes.{shaped, near, matches, isNil, isIntegerValue}
+use Rattle.shapes.specs.Checks.{Check, unless, all, on, at, forEach, eachElement, objectKind, stringKind, arrayKind, isSome, needs, text, isEmpty}
+use Rattle.shapes.specs.Shapes.{shaped, ranged, matches, isIntegerValue}
 use Rattle.shapes.specs.Says.{Nodes, GivesTwo, Needs}
 use Rattle.shapes.specs.Laws.{checking, least-needs, unless-yes, array-is, all-then, all-none, pass-none}
 use Rattle.schema.specs.Schema.{isGeometryType, isSurfaceType, geometryType, lod, surfaceType, surface, boundary, boundaries, overBoundary, values, surfaces, semantics, needsLod, geometry, geometries}
@@ -98,19 +98,19 @@ text-told : (rule : ℕ) (ok : List ℕ → Bool) (v : Json) → isStringValue v
 unfolding text
 text-told rule ok v e = rw e
 
-string-told : (v : Json) → isStringValue v ≡ true → isString v ≡ []
-unfolding isString unless
+string-told : (v : Json) → isStringValue v ≡ true → stringKind v ≡ []
+unfolding stringKind unless
 string-told v e = rw e
 
 -- a value that is no string
-pub string-other : {x t : List ℕ} {k : ℕ} (best : ℕ) (c : Check) {b : Bool} {r : ℕ} → ((v : Json) → isStringValue v ≡ false → isString v ≡ c v) → Gives isStringValue x t k b → not b ≡ true → Gives (λ v. least best (isString v)) x t k r → Gives (λ v. least best (c v)) x t k r
-string-other best c {b} f g h u = gives-same best isString c (λ v s. f v (sym (g .is v s) ∙ not-true b h)) u
+pub string-other : {x t : List ℕ} {k : ℕ} (best : ℕ) (c : Check) {b : Bool} {r : ℕ} → ((v : Json) → isStringValue v ≡ false → stringKind v ≡ c v) → Gives isStringValue x t k b → not b ≡ true → Gives (λ v. least best (stringKind v)) x t k r → Gives (λ v. least best (c v)) x t k r
+string-other best c {b} f g h u = gives-same best stringKind c (λ v s. f v (sym (g .is v s) ∙ not-true b h)) u
 
 -- a string
 pub string-check : {x t : List ℕ} {k : ℕ} (best rule : ℕ) (ok : List ℕ → Bool) (c : Check) {p e r : ℕ} {b : Bool} → ((v : Json) → isStringValue v ≡ true → unless (ok (textOf v)) rule v ≡ c v) → StringNode x t k → p ≡ getD t k 0 + 1 → e ≡ getD t (k + 1) 0 - 1 → b ≡ ok (decodeAt x p e) → Gives (λ v. least best (unless b rule v)) x t k r → Gives (λ v. least best (c v)) x t k r
 string-check best rule ok c {b = b} f d q u m g = gives-same best (λ v. unless b rule v) c (λ v s. ap (λ (b : Bool). unless b rule v) (string-text d ok q u m .is v s) ∙ f v (d .is v s)) g
 
-pub lod-other : (v : Json) → isStringValue v ≡ false → isString v ≡ lod v
+pub lod-other : (v : Json) → isStringValue v ≡ false → stringKind v ≡ lod v
 unfolding lod all
 lod-other v e = rw (text-skip 10 isLod v e, append-nil)
 
@@ -118,7 +118,7 @@ pub lod-string : (v : Json) → isStringValue v ≡ true → unless (isLod (text
 unfolding lod all
 lod-string v e = rw (string-told v e, text-told 10 isLod v e, append-nil)
 
-pub surface-other : (v : Json) → isStringValue v ≡ false → isString v ≡ surfaceType v
+pub surface-other : (v : Json) → isStringValue v ≡ false → stringKind v ≡ surfaceType v
 unfolding surfaceType all
 surface-other v e = rw (text-skip 10 isSurfaceType v e, append-nil)
 
@@ -142,7 +142,7 @@ unfolding isSurfaceType
 surface-added w e h q = rw (no-code surfaceWords w e h) q
 
 -- the type of a geometry
-pub geometry-other : (object code : ℕ) (v : Json) → isStringValue v ≡ false → isString v ≡ geometryType object code v
+pub geometry-other : (object code : ℕ) (v : Json) → isStringValue v ≡ false → stringKind v ≡ geometryType object code v
 unfolding geometryType all
 geometry-other object code v e =
     rw (text-skip 10 isGeometryType v e, text-skip 11 (λ w. not (is "GeometryInstance" w)) v e, text-skip 14 (λ w. eqb code 0 || isPermitted object code) v e, append-nil)
@@ -200,34 +200,34 @@ module _ {x t : List ℕ} {found : Found} {code k : ℕ} (object best : ℕ) (d 
 -- ---- arrays of surfaces and of geometries
 
 module _ {x t : List ℕ} {i : ℕ} (best : ℕ) {b : Bool} {r : ℕ} (g : Gives isArrayValue x t i b) where
-  elements-no : (c : Check) → not b ≡ true → Gives (λ v. least best (isArray v)) x t i r → Gives (λ v. least best (all (isArray ∷ each c ∷ []) v)) x t i r
-  elements-no c h u = all-then best r isArray (each c ∷ []) u (all-then r r (each c) [] (pass-none c r g h) all-none)
+  elements-no : (c : Check) → not b ≡ true → Gives (λ v. least best (arrayKind v)) x t i r → Gives (λ v. least best (all (arrayKind ∷ eachElement c ∷ []) v)) x t i r
+  elements-no c h u = all-then best r arrayKind (eachElement c ∷ []) u (all-then r r (eachElement c) [] (pass-none c r g h) all-none)
 
-  elements-yes : (c : Check) → not b ≡ false → Gives (λ v. least best (each c v)) x t i r → Gives (λ v. least best (all (isArray ∷ each c ∷ []) v)) x t i r
-  elements-yes c h u = all-then best best isArray (each c ∷ []) (array-is best b (unless-yes best 7 (not-false b h)) g) (all-then best r (each c) [] u all-none)
+  elements-yes : (c : Check) → not b ≡ false → Gives (λ v. least best (eachElement c v)) x t i r → Gives (λ v. least best (all (arrayKind ∷ eachElement c ∷ []) v)) x t i r
+  elements-yes c h u = all-then best best arrayKind (eachElement c ∷ []) (array-is best b (unless-yes best 7 (not-false b h)) g) (all-then best r (eachElement c) [] u all-none)
 
-  pub surfaces-no : not b ≡ true → Gives (λ v. least best (isArray v)) x t i r → Gives (λ v. least best (surfaces v)) x t i r
+  pub surfaces-no : not b ≡ true → Gives (λ v. least best (arrayKind v)) x t i r → Gives (λ v. least best (surfaces v)) x t i r
   unfolding surfaces
   surfaces-no h u = elements-no surface h u
 
-  pub surfaces-yes : not b ≡ false → Gives (λ v. least best (each surface v)) x t i r → Gives (λ v. least best (surfaces v)) x t i r
+  pub surfaces-yes : not b ≡ false → Gives (λ v. least best (eachElement surface v)) x t i r → Gives (λ v. least best (surfaces v)) x t i r
   unfolding surfaces
   surfaces-yes h u = elements-yes surface h u
 
-  pub geometries-no : (vertices object : ℕ) → not b ≡ true → Gives (λ v. least best (isArray v)) x t i r → Gives (λ v. least best (geometries vertices object v)) x t i r
+  pub geometries-no : (vertices object : ℕ) → not b ≡ true → Gives (λ v. least best (arrayKind v)) x t i r → Gives (λ v. least best (geometries vertices object v)) x t i r
   unfolding geometries
   geometries-no vertices object h u = elements-no (geometry vertices object) h u
 
-  pub geometries-yes : (vertices object : ℕ) → not b ≡ false → Gives (λ v. least best (each (geometry vertices object) v)) x t i r → Gives (λ v. least best (geometries vertices object v)) x t i r
+  pub geometries-yes : (vertices object : ℕ) → not b ≡ false → Gives (λ v. least best (eachElement (geometry vertices object) v)) x t i r → Gives (λ v. least best (geometries vertices object v)) x t i r
   unfolding geometries
   geometries-yes vertices object h u = elements-yes (geometry vertices object) h u
 
 -- a surface
-surface-all : (v : Json) → all (isObject ∷ needs ("type" ∷ []) ∷ at "type" surfaceType ∷ []) v ≡ surface v
+surface-all : (v : Json) → all (objectKind ∷ needs ("type" ∷ []) ∷ at "type" surfaceType ∷ []) v ≡ surface v
 unfolding surface
 surface-all v = refl
 
-pub surface-is : {x t : List ℕ} {i : ℕ} (best a b : ℕ) {r : ℕ} {kind : Found} → Seeks (λ v. find "type" v) x t i kind → Gives (λ v. least best (isObject v)) x t i a → Needs x t kind i a b → GivesFound (λ o. least b (on surfaceType o)) x t kind r → Gives (λ v. least best (surface v)) x t i r
+pub surface-is : {x t : List ℕ} {i : ℕ} (best a b : ℕ) {r : ℕ} {kind : Found} → Seeks (λ v. find "type" v) x t i kind → Gives (λ v. least best (objectKind v)) x t i a → Needs x t kind i a b → GivesFound (λ o. least b (on surfaceType o)) x t kind r → Gives (λ v. least best (surface v)) x t i r
 surface-is best a b f o n g =
     record {
       is = λ v s.
@@ -240,31 +240,31 @@ surface-is best a b f o n g =
 
 -- ---- boundaries
 
-bound-lists : (vertices code : ℕ) (v : Json) (b : Bool) → eqb code 0 ≡ b → isArray v ++ cond b [] (shaped (depth code) v ++ near vertices (depth code) v) ≡ boundaries vertices code v
+bound-lists : (vertices code : ℕ) (v : Json) (b : Bool) → eqb code 0 ≡ b → arrayKind v ++ cond b [] (shaped (depth code) v ++ ranged vertices (depth code) v) ≡ boundaries vertices code v
 unfolding boundaries boundary all
 bound-lists vertices code v b e = rw (e, append-nil)
 
-module _ {x t : List ℕ} {k : ℕ} (best vertices code : ℕ) {m : ℕ} (a : Gives (λ v. least best (isArray v)) x t k m) where
+module _ {x t : List ℕ} {k : ℕ} (best vertices code : ℕ) {m : ℕ} (a : Gives (λ v. least best (arrayKind v)) x t k m) where
   pub boundary-none : code ≡ 0 → Gives (λ v. least best (boundaries vertices code v)) x t k m
-  boundary-none e = gives-same best isArray (boundaries vertices code) (λ v s. sym (append-nil (isArray v)) ∙ bound-lists vertices code v true (ap (λ (n : ℕ). eqb n 0) e)) a
+  boundary-none e = gives-same best arrayKind (boundaries vertices code) (λ v s. sym (append-nil (arrayKind v)) ∙ bound-lists vertices code v true (ap (λ (n : ℕ). eqb n 0) e)) a
 
-  pub boundary-is : {p r : ℕ} → (code ≡ 0 → ⊥) → p ≡ depth code → Gives (λ v. least m (shaped p v ++ near vertices p v)) x t k r → Gives (λ v. least best (boundaries vertices code v)) x t k r
+  pub boundary-is : {p r : ℕ} → (code ≡ 0 → ⊥) → p ≡ depth code → Gives (λ v. least m (shaped p v ++ ranged vertices p v)) x t k r → Gives (λ v. least best (boundaries vertices code v)) x t k r
   boundary-is h p s =
       record {
         is = λ v z.
-            step best m (isArray v) (shaped (depth code) v ++ near vertices (depth code) v) (a .is v z) (s .is v z ∙ ap (λ (d : ℕ). least m (shaped d v ++ near vertices d v)) p)
+            step best m (arrayKind v) (shaped (depth code) v ++ ranged vertices (depth code) v) (a .is v z) (s .is v z ∙ ap (λ (d : ℕ). least m (shaped d v ++ ranged vertices d v)) p)
             ∙ ap (least best) (bound-lists vertices code v false (ne-eqb code 0 h));
       }
 
 -- every fault of a list is below 18 * 65536: if that is the least of it and them, there are none
 abbrev None : List ℕ → Type 0
-None fs = least 1179648 fs ≡ 1179648 → fs ≡ []
+None fs = least noFault fs ≡ noFault → fs ≡ []
 
 none-++ : (p q : List ℕ) → None p → None q → None (p ++ q)
 unfolding least
 none-++ p q f g e =
-    let h : least (least 1179648 p) q ≡ 1179648 = sym (least-++ 1179648 p q) ∙ e in
-    let z : least 1179648 p ≡ 1179648 = omega (arith, least-le (least 1179648 p) q, least-le 1179648 p) in
+    let h : least (least noFault p) q ≡ noFault = sym (least-++ noFault p q) ∙ e in
+    let z : least noFault p ≡ noFault = omega (arith, least-le (least noFault p) q, least-le noFault p) in
     let u : q ≡ [] = g (ap (λ (n : ℕ). least n q) (sym z) ∙ h) in
     rw (f z, u)
 
@@ -293,30 +293,30 @@ module _ {x t : List ℕ} (short : length x ≤ 65535) where
   none-shaped zero {v = v} s = none-unless (isIntegerValue v) s
   none-shaped (suc d) {v = v} s = none-++ (unless (isArrayValue v) 12 v) (forEach (shaped d) (elements v)) (none-unless (isArrayValue v) s) (none-elements (shaped d) (λ i w z. none-shaped d z) s)
 
-nil-yes : (fs : List ℕ) → fs ≡ [] → isNil fs ≡ true
-unfolding isNil
+nil-yes : (fs : List ℕ) → fs ≡ [] → isEmpty fs ≡ true
+unfolding isEmpty
 nil-yes fs e = rw e
 
-nil-no : (fs : List ℕ) → (least 1179648 fs ≡ 1179648 → ⊥) → isNil fs ≡ false
-unfolding isNil least
+nil-no : (fs : List ℕ) → (least noFault fs ≡ noFault → ⊥) → isEmpty fs ≡ false
+unfolding isEmpty least
 nil-no [] h = absurd (h refl)
 nil-no (f ∷ fs) h = refl
 
-nil-test : {l : ℕ} (fs : List ℕ) → None fs → l ≡ least 1179648 fs → eqb l 1179648 ≡ isNil fs
-nil-test {l} fs n e = go (eqb l 1179648) refl
+nil-test : {l : ℕ} (fs : List ℕ) → None fs → l ≡ least noFault fs → eqb l noFault ≡ isEmpty fs
+nil-test {l} fs n e = go (eqb l noFault) refl
   where
-    go : (b : Bool) → eqb l 1179648 ≡ b → b ≡ isNil fs
-    go true q = sym (nil-yes fs (n (sym e ∙ eqb-true l 1179648 q)))
-    go false q = sym (nil-no fs (λ z. eqb-false l 1179648 q (e ∙ z)))
+    go : (b : Bool) → eqb l noFault ≡ b → b ≡ isEmpty fs
+    go true q = sym (nil-yes fs (n (sym e ∙ eqb-true l noFault q)))
+    go false q = sym (nil-no fs (λ z. eqb-false l noFault q (e ∙ z)))
 
 -- ---- a boundary with no fault is well shaped
 
 -- the least of several lists is the greatest there is only if it is so of the one in the middle
-middle : (p q r : List ℕ) → least 1179648 (p ++ (q ++ r)) ≡ 1179648 → least 1179648 q ≡ 1179648
+middle : (p q r : List ℕ) → least noFault (p ++ (q ++ r)) ≡ noFault → least noFault q ≡ noFault
 middle p q r e =
-    let h : least (least (least 1179648 p) q) r ≡ 1179648 = simp least-++ at e in
-    let u : least 1179648 p ≡ 1179648 = omega (arith, least-le (least (least 1179648 p) q) r, least-le (least 1179648 p) q, least-le 1179648 p) in
-    let w : least (least 1179648 p) q ≡ 1179648 = omega (arith, least-le (least (least 1179648 p) q) r, least-le (least 1179648 p) q, least-le 1179648 p) in
+    let h : least (least (least noFault p) q) r ≡ noFault = simp least-++ at e in
+    let u : least noFault p ≡ noFault = omega (arith, least-le (least (least noFault p) q) r, least-le (least noFault p) q, least-le noFault p) in
+    let w : least (least noFault p) q ≡ noFault = omega (arith, least-le (least (least noFault p) q) r, least-le (least noFault p) q, least-le noFault p) in
     rw u at w
 
 -- the least of any faults below a number, found by way of a greater number
@@ -334,24 +334,24 @@ module _ {x t : List ℕ} {found : Found} where
     where
       told : (code ≡ 0 → ⊥) → (i : ℕ) → found ≡ At i → own ≡ 4294967295 → (v : Json) → Sub x t i v → shaped (depth code) v ≡ []
       told h i e z v s =
-          let fs : List ℕ = isArray v ++ (shaped (depth code) v ++ near vertices (depth code) v) in
+          let fs : List ℕ = arrayKind v ++ (shaped (depth code) v ++ ranged vertices (depth code) v) in
           let g : own ≡ least 4294967295 (boundaries vertices code v) = k .is (some v) (subst (Finds x t (some v)) (sym e) (v, refl, s)) in
           let q : least 4294967295 fs ≡ 4294967295 = ap (least 4294967295) (bound-lists vertices code v false (ne-eqb code 0 h)) ∙ sym g ∙ z in
-          let c : least 1179648 fs ≡ 1179648 = sym (least-cap 1179648 4294967295 fs (omega arith)) ∙ ap (min 1179648) q in
-          none-shaped short (depth code) s (middle (isArray v) (shaped (depth code) v) (near vertices (depth code) v) c)
+          let c : least noFault fs ≡ noFault = sym (least-cap noFault 4294967295 fs (omega arith)) ∙ ap (min noFault) q in
+          none-shaped short (depth code) s (middle (arrayKind v) (shaped (depth code) v) (ranged vertices (depth code) v) c)
 
 module _ {x t : List ℕ} {i : ℕ} where
-  pub shape-known : {code : ℕ} {b : Bool} → SoundAt x t i code b → b ≡ true → Gives (λ v. isNil (shaped (depth code) v)) x t i true
+  pub shape-known : {code : ℕ} {b : Bool} → SoundAt x t i code b → b ≡ true → Gives (λ v. isEmpty (shaped (depth code) v)) x t i true
   shape-known {code} k e = record { is = λ v s. sym (nil-yes (shaped (depth code) v) (k .none e v s)) }
 
-  pub shape-told : (code : ℕ) {d l : ℕ} → Node x t i → d ≡ depth code → Gives (λ v. least 1179648 (shaped d v)) x t i l → Gives (λ v. isNil (shaped (depth code) v)) x t i (eqb l 1179648)
-  shape-told code n e g = record { is = λ v s. nil-test (shaped (depth code) v) (none-shaped (n .short) (depth code) s) (g .is v s ∙ ap (λ (d : ℕ). least 1179648 (shaped d v)) e) }
+  pub shape-told : (code : ℕ) {d l : ℕ} → Node x t i → d ≡ depth code → Gives (λ v. least noFault (shaped d v)) x t i l → Gives (λ v. isEmpty (shaped (depth code) v)) x t i (eqb l noFault)
+  shape-told code n e g = record { is = λ v s. nil-test (shaped (depth code) v) (none-shaped (n .short) (depth code) s) (g .is v s ∙ ap (λ (d : ℕ). least noFault (shaped d v)) e) }
 
-over-lists : (count code : ℕ) (w v : Json) (b : Bool) → (code ≡ 0 → ⊥) → isNil (shaped (depth code) w) ≡ b → cond b (matches (valuesDepth code) w v) [] ++ near count (valuesDepth code) v ≡ overBoundary count code (some w) v
+over-lists : (count code : ℕ) (w v : Json) (b : Bool) → (code ≡ 0 → ⊥) → isEmpty (shaped (depth code) w) ≡ b → cond b (matches (valuesDepth code) w v) [] ++ ranged count (valuesDepth code) v ≡ overBoundary count code (some w) v
 unfolding overBoundary
 over-lists count code w v b h e = rw (ne-eqb code 0 h, e)
 
-values-all : (count code : ℕ) (o : Option Json) (v : Json) → all (isArray ∷ overBoundary count code o ∷ []) v ≡ values count code o v
+values-all : (count code : ℕ) (o : Option Json) (v : Json) → all (arrayKind ∷ overBoundary count code o ∷ []) v ≡ values count code o v
 unfolding values
 values-all count code o v = refl
 
@@ -370,9 +370,9 @@ module _ {x t : List ℕ} {k : ℕ} {found : Found} (best count code : ℕ) wher
     unfolding overBoundary least
     over-uncoded h = over-some (λ w v z s. rw h)
 
-    module _ {p m : ℕ} {l : Bool} (h : code ≡ 0 → ⊥) (i : p ≡ valuesDepth code) (n : Gives (λ v. least best (near count p v)) x t k m) (s : Gives (λ w. isNil (shaped (depth code) w)) x t b l) where
-      far : (v : Json) → Sub x t k v → m ≡ least best (near count (valuesDepth code) v)
-      far v z = n .is v z ∙ ap (λ (d : ℕ). least best (near count d v)) i
+    module _ {p m : ℕ} {l : Bool} (h : code ≡ 0 → ⊥) (i : p ≡ valuesDepth code) (n : Gives (λ v. least best (ranged count p v)) x t k m) (s : Gives (λ w. isEmpty (shaped (depth code) w)) x t b l) where
+      far : (v : Json) → Sub x t k v → m ≡ least best (ranged count (valuesDepth code) v)
+      far v z = n .is v z ∙ ap (λ (d : ℕ). least best (ranged count d v)) i
 
       pub over-unshaped : not l ≡ true → GivesOver (λ o w. least best (overBoundary count code o w)) x t found k m
       over-unshaped u = over-some (λ w v y z. far v z ∙ ap (least best) (over-lists count code w v false h (sym (s .is w y) ∙ not-true l u)))
@@ -381,19 +381,19 @@ module _ {x t : List ℕ} {k : ℕ} {found : Found} (best count code : ℕ) wher
       over-shaped {g} {r} u o f =
           over-some
           (λ w v y z.
-          step best m (near count (valuesDepth code) v) (matches (valuesDepth code) w v) (far v z) (f .is w v y z ∙ ap (λ (d : ℕ). least m (matches d w v)) o)
-          ∙ (least-comm best (near count (valuesDepth code) v) (matches (valuesDepth code) w v) ∙ ap (least best) (over-lists count code w v true h (sym (s .is w y) ∙ not-false l u))))
+          step best m (ranged count (valuesDepth code) v) (matches (valuesDepth code) w v) (far v z) (f .is w v y z ∙ ap (λ (d : ℕ). least m (matches d w v)) o)
+          ∙ (least-comm best (ranged count (valuesDepth code) v) (matches (valuesDepth code) w v) ∙ ap (least best) (over-lists count code w v true h (sym (s .is w y) ∙ not-false l u))))
 
-  pub values-is : {m r : ℕ} → Gives (λ v. least best (isArray v)) x t k m → GivesOver (λ o w. least m (overBoundary count code o w)) x t found k r → GivesOver (λ o w. least best (values count code o w)) x t found k r
+  pub values-is : {m r : ℕ} → Gives (λ v. least best (arrayKind v)) x t k m → GivesOver (λ o w. least m (overBoundary count code o w)) x t found k r → GivesOver (λ o w. least best (values count code o w)) x t found k r
   values-is {m} a g = record { is = λ o v f s. goes (then (a .is v s) (then (g .is o v f s) done)) ∙ ap (least best) (values-all count code o v) }
 
 -- ---- semantics
 
-semantics-all : (code : ℕ) (b : Option Json) (v : Json) → all (isObject ∷ needs ("surfaces" ∷ "values" ∷ []) ∷ at "surfaces" surfaces ∷ at "values" (values (countIn (find "surfaces" v)) code b) ∷ []) v ≡ semantics code b v
+semantics-all : (code : ℕ) (b : Option Json) (v : Json) → all (objectKind ∷ needs ("surfaces" ∷ "values" ∷ []) ∷ at "surfaces" surfaces ∷ at "values" (values (countIn (find "surfaces" v)) code b) ∷ []) v ≡ semantics code b v
 unfolding semantics
 semantics-all code b v = refl
 
-pub semantics-is : {x t : List ℕ} {i : ℕ} (best code : ℕ) (a b c d : ℕ) {n r : ℕ} {one each two : Found} → Seeks (λ v. find "surfaces" v) x t i one → Seeks (λ v. find "values" v) x t i each → Gives (λ v. least best (isObject v)) x t i a → Needs x t one i a b → Needs x t each i b c → GivesFound (λ o. least c (on surfaces o)) x t one d → GivesFound countIn x t one n → GivesBoth (λ o p. least d (on (values n code p) o)) x t each two r → GivesOver (λ p v. least best (semantics code p v)) x t two i r
+pub semantics-is : {x t : List ℕ} {i : ℕ} (best code : ℕ) (a b c d : ℕ) {n r : ℕ} {one eachElement two : Found} → Seeks (λ v. find "surfaces" v) x t i one → Seeks (λ v. find "values" v) x t i eachElement → Gives (λ v. least best (objectKind v)) x t i a → Needs x t one i a b → Needs x t eachElement i b c → GivesFound (λ o. least c (on surfaces o)) x t one d → GivesFound countIn x t one n → GivesBoth (λ o p. least d (on (values n code p) o)) x t eachElement two r → GivesOver (λ p v. least best (semantics code p v)) x t two i r
 semantics-is best code a b c d {n} {r} f g o l m s k h =
     record {
       is = λ p v y z.
@@ -422,7 +422,7 @@ lod-lists v = rw append-nil
 -- a geometry whose type has the given code
 unfoldable geometryWith : ℕ → ℕ → ℕ → Check
 geometryWith vertices object code v =
-    all (isObject ∷ needs ("type" ∷ "boundaries" ∷ []) ∷ needsLod
+    all (objectKind ∷ needs ("type" ∷ "boundaries" ∷ []) ∷ needsLod
     ∷ at "type" (geometryType object code)
     ∷ at "lod" lod
     ∷ at "boundaries" (boundaries vertices code)
@@ -433,7 +433,7 @@ with-code : (vertices object : ℕ) (v : Json) → geometryWith vertices object 
 unfolding geometryWith geometry typeText
 with-code vertices object v = refl
 
-pub geometry-is : {x t : List ℕ} {i : ℕ} (vertices object best a b c d e f g : ℕ) {code r : ℕ} {kind level outline meaning : Found} → Seeks (λ v. find "type" v) x t i kind → Seeks (λ v. find "lod" v) x t i level → Seeks (λ v. find "boundaries" v) x t i outline → Seeks (λ v. find "semantics" v) x t i meaning → GivesFound (λ o. codeOf geometryWords (textIn o)) x t kind code → Gives (λ v. least best (isObject v)) x t i a → Needs x t kind i a b → Needs x t outline i b c → GivesThree (lacksLod c) x t i kind level d → GivesFound (λ o. least d (on (geometryType object code) o)) x t kind e → GivesFound (λ o. least e (on lod o)) x t level f → GivesFound (λ o. least f (on (boundaries vertices code) o)) x t outline g → GivesBoth (λ o p. least g (on (semantics code p) o)) x t meaning outline r → Gives (λ v. least best (geometry vertices object v)) x t i r
+pub geometry-is : {x t : List ℕ} {i : ℕ} (vertices object best a b c d e f g : ℕ) {code r : ℕ} {kind level outline meaning : Found} → Seeks (λ v. find "type" v) x t i kind → Seeks (λ v. find "lod" v) x t i level → Seeks (λ v. find "boundaries" v) x t i outline → Seeks (λ v. find "semantics" v) x t i meaning → GivesFound (λ o. codeOf geometryWords (textIn o)) x t kind code → Gives (λ v. least best (objectKind v)) x t i a → Needs x t kind i a b → Needs x t outline i b c → GivesThree (lacksLod c) x t i kind level d → GivesFound (λ o. least d (on (geometryType object code) o)) x t kind e → GivesFound (λ o. least e (on lod o)) x t level f → GivesFound (λ o. least f (on (boundaries vertices code) o)) x t outline g → GivesBoth (λ o p. least g (on (semantics code p) o)) x t meaning outline r → Gives (λ v. least best (geometry vertices object v)) x t i r
 unfolding geometryWith
 geometry-is vertices object best a b c d e f g {code} k l m n o p q s u w y z h =
     record {

@@ -1,4 +1,4 @@
--- What the proofs of the root and of city objects use. Assumes nothing.
+-- What the proofs of the root and of city objects use.
 use Prim.Native.Nat.{ℕ, _+_, _-_}
 use mathlib.Core.Path.{_≡_, refl, sym, ap, _∙_, subst}
 use mathlib.Core.Bool.{Bool, true, false, not, _||_, _&&_}
@@ -22,15 +22,15 @@ use Rattle.nodes.specs.Faults.{least}
 use Rattle.nodes.specs.Says.{Sought, Seeks, Finds, Gives, GivesFound}
 use Rattle.nodes.specs.declared.Found.{Found}
 use Rattle.nodes.specs.declared.Found.the-variants.{At, Nothing}
-use Rattle.shapes.specs.Checks.{Check, unless, all, on, at, each, isObject, isString, isNumber, isArray, text}
+use Rattle.shapes.specs.Checks.{Check, unless, all, on, at, eachElement, objectKind, stringKind, numberKind, arrayKind, text}
 use Rattle.shapes.specs.Checks as checks
 use Rattle.shapes.specs.Says.{Needs}
-use Rattle.shapes.specs.Shapes.{holdsThree, inPairRange, vertex}
+use Rattle.shapes.specs.Shapes.{threeEntries, pairRange, vertex}
 use Rattle.shapes.specs.Laws.{checking, gives-as, gives-then, text-none, all-none, all-then, needs-none, needs-then, unless-told, unless-yes, kind-yes, pass-none}
 use Rattle.fields.specs.Fields.{textIn, typeText}
 use Rattle.fields.specs.Says.{CodeOf, StringNode}
 use Rattle.fields.specs.Laws.{at-node, at-room, at-onward, sought-in, of-none, of-some, string-node, string-first, string-second, string-span, string-text}
-use Rattle.schema.specs.Schema.{wordIs, objectType, isObjectType, links, geometries, cityObject, threePairs, vertices}
+use Rattle.schema.specs.Schema.{oneWord, objectType, isObjectType, links, geometries, cityObject, threePairs, vertices}
 
 -- a check of what was found
 module _ {x t : List ℕ} {found : Found} (best : ℕ) (c : Check) where
@@ -48,13 +48,13 @@ unfolding all
 two-checks c d v = ap (λ l. c v ++ l) (sym (append-nil (d v)))
 
 -- `scale` and `translate`
-pub pairs-is : (best : ℕ) (v : Json) → least best (isArray v ++ each isNumber v ++ holdsThree v ++ each inPairRange v) ≡ least best (threePairs v)
+pub pairs-is : (best : ℕ) (v : Json) → least best (arrayKind v ++ eachElement numberKind v ++ threeEntries v ++ eachElement pairRange v) ≡ least best (threePairs v)
 unfolding threePairs all
 pairs-is best v = ap (least best) (simp (append-assoc, append-nil))
 
-pub vertices-is : (best : ℕ) (v : Json) → least best (isArray v ++ each vertex v) ≡ least best (vertices v)
+pub vertices-is : (best : ℕ) (v : Json) → least best (arrayKind v ++ eachElement vertex v) ≡ least best (vertices v)
 unfolding vertices
-vertices-is best v = ap (least best) (two-checks isArray (each vertex) v)
+vertices-is best v = ap (least best) (two-checks arrayKind (eachElement vertex) v)
 
 -- what a search in a value that was itself found found is sought
 pub sought-at : {x t : List ℕ} {k : ℕ} {found other : Found} {f : Json → Option Json} → Seeks f x t k found → Sought x t other → other ≡ At k → Sought x t found
@@ -69,26 +69,26 @@ pub ruleset root = (checking, sought-in, sought-at, at-node, at-room, at-onward,
 
 -- an array of which each element is checked: another value, and an array
 module _ {x t : List ℕ} {i : ℕ} (best : ℕ) (c : Check) {r : ℕ} {b : Bool} (g : Gives isArrayValue x t i b) where
-  pub array-other : not b ≡ true → Gives (λ v. least best (isArray v)) x t i r → Gives (λ v. least best (all (isArray ∷ each c ∷ []) v)) x t i r
+  pub array-other : not b ≡ true → Gives (λ v. least best (arrayKind v)) x t i r → Gives (λ v. least best (all (arrayKind ∷ eachElement c ∷ []) v)) x t i r
   array-other e u =
-      gives-as best (λ v. isArray v ++ each c v) (all (isArray ∷ each c ∷ [])) (λ v. ap (least best) (two-checks isArray (each c) v))
-      (gives-then best r isArray (each c) u (pass-none c r g e))
+      gives-as best (λ v. arrayKind v ++ eachElement c v) (all (arrayKind ∷ eachElement c ∷ [])) (λ v. ap (least best) (two-checks arrayKind (eachElement c) v))
+      (gives-then best r arrayKind (eachElement c) u (pass-none c r g e))
 
-  pub array-each : not b ≡ false → Gives (λ v. least best (each c v)) x t i r → Gives (λ v. least best (all (isArray ∷ each c ∷ []) v)) x t i r
-  unfolding isArray
+  pub array-each : not b ≡ false → Gives (λ v. least best (eachElement c v)) x t i r → Gives (λ v. least best (all (arrayKind ∷ eachElement c ∷ []) v)) x t i r
+  unfolding arrayKind
   array-each e p =
-      gives-as best (λ v. isArray v ++ each c v) (all (isArray ∷ each c ∷ [])) (λ v. ap (least best) (two-checks isArray (each c) v))
-      (kind-yes best 7 (each c) g e p)
+      gives-as best (λ v. arrayKind v ++ eachElement c v) (all (arrayKind ∷ eachElement c ∷ [])) (λ v. ap (least best) (two-checks arrayKind (eachElement c) v))
+      (kind-yes best 7 (eachElement c) g e p)
 
 -- a list of IDs
-pub ids-is : (best : ℕ) (v : Json) → least best (all (isArray ∷ each isString ∷ []) v) ≡ least best (links v)
+pub ids-is : (best : ℕ) (v : Json) → least best (all (arrayKind ∷ eachElement stringKind ∷ []) v) ≡ least best (links v)
 unfolding links
 ids-is best v = refl
 
 -- the texts of a string: another value has none, and a string's is told by its test
 module _ {x t : List ℕ} {i : ℕ} {b : Bool} (g : Gives isStringValue x t i b) where
-  pub string-yes : (best : ℕ) → not b ≡ false → Gives (λ v. least best (isString v)) x t i best
-  unfolding isString
+  pub string-yes : (best : ℕ) → not b ≡ false → Gives (λ v. least best (stringKind v)) x t i best
+  unfolding stringKind
   string-yes best e = unless-told best 7 g (unless-yes best 7 (not-false b e))
 
   pub text-told : (best rule : ℕ) (ok : List ℕ → Bool) {k : Bool} {r : ℕ} → not b ≡ false → Gives (λ v. ok (textOf v)) x t i k → Gives (λ v. least best (unless k rule v)) x t i r → Gives (λ v. least best (text rule ok v)) x t i r
@@ -100,13 +100,13 @@ module _ {x t : List ℕ} {i : ℕ} {b : Bool} (g : Gives isStringValue x t i b)
 
 -- one word
 module _ {x t : List ℕ} {i : ℕ} {b : Bool} (best : ℕ) (w : List ℕ) {r : ℕ} (g : Gives isStringValue x t i b) where
-  pub word-other : not b ≡ true → Gives (λ v. least best (isString v)) x t i r → Gives (λ v. least best (wordIs w v)) x t i r
-  unfolding wordIs
-  word-other e u = all-then best r isString (text 10 (same w) ∷ []) u (all-then r r (text 10 (same w)) [] (text-none r 10 (same w) g e) all-none)
+  pub word-other : not b ≡ true → Gives (λ v. least best (stringKind v)) x t i r → Gives (λ v. least best (oneWord w v)) x t i r
+  unfolding oneWord
+  word-other e u = all-then best r stringKind (text 10 (same w) ∷ []) u (all-then r r (text 10 (same w)) [] (text-none r 10 (same w) g e) all-none)
 
-  pub word-told : {k : Bool} → not b ≡ false → Gives (λ v. same w (textOf v)) x t i k → Gives (λ v. least best (unless k 10 v)) x t i r → Gives (λ v. least best (wordIs w v)) x t i r
-  unfolding wordIs
-  word-told e m u = all-then best best isString (text 10 (same w) ∷ []) (string-yes g best e) (all-then best r (text 10 (same w)) [] (text-told g best 10 (same w) e m u) all-none)
+  pub word-told : {k : Bool} → not b ≡ false → Gives (λ v. same w (textOf v)) x t i k → Gives (λ v. least best (unless k 10 v)) x t i r → Gives (λ v. least best (oneWord w v)) x t i r
+  unfolding oneWord
+  word-told e m u = all-then best best stringKind (text 10 (same w) ∷ []) (string-yes g best e) (all-then best r (text 10 (same w)) [] (text-told g best 10 (same w) e m u) all-none)
 
 -- ---- the type of a city object
 
@@ -136,17 +136,17 @@ code-at {x = x} {t = t} c e = record { is = λ v s. c .is (some v) (subst (Finds
 -- the checks of a string's type, by what its tests say
 type-by : (best : ℕ) (v : Json) (one add : Bool) → isStringValue v ≡ true → isOne objectWords (textOf v) ≡ one → isAdded (textOf v) ≡ add
     → least best (objectType v) ≡ least best (unless (one || add) 10 v ++ (unless (not add) 11 v ++ []))
-unfolding objectType all isString text isObjectType unless
+unfolding objectType all stringKind text isObjectType unless
 type-by best v one add s o a = rw (s, o, a)
 
 one-of-code : (u : List ℕ) (code : ℕ) → code ≡ codeOf objectWords u → isOne objectWords u ≡ not (eqb code 0)
 one-of-code u code e = one-has-code objectWords u ∙ ap (λ n. not (eqb n 0)) (sym e)
 
 module _ {x t : List ℕ} {i : ℕ} {b : Bool} (best : ℕ) (g : Gives isStringValue x t i b) where
-  pub type-other : {r : ℕ} → not b ≡ true → Gives (λ v. least best (isString v)) x t i r → Gives (λ v. least best (objectType v)) x t i r
+  pub type-other : {r : ℕ} → not b ≡ true → Gives (λ v. least best (stringKind v)) x t i r → Gives (λ v. least best (objectType v)) x t i r
   unfolding objectType
   type-other {r} e u =
-      all-then best r isString (text 10 isObjectType ∷ text 11 (λ w. not (isAdded w)) ∷ []) u
+      all-then best r stringKind (text 10 isObjectType ∷ text 11 (λ w. not (isAdded w)) ∷ []) u
       (all-then r r (text 10 isObjectType) (text 11 (λ w. not (isAdded w)) ∷ []) (text-none r 10 isObjectType g e)
       (all-then r r (text 11 (λ w. not (isAdded w))) [] (text-none r 11 (λ w. not (isAdded w)) g e) all-none))
 
@@ -179,7 +179,7 @@ added-told d q u s = string-text d isAdded q u s
 -- the checks of a city object whose type has the code
 unfoldable objectWith : ℕ → ℕ → Check
 objectWith n code =
-    all (isObject ∷ checks.needs ("type" ∷ []) ∷ at "type" objectType ∷ at "attributes" isObject ∷ at "children" links ∷ at "parents" links ∷ at "geometry" (geometries n code) ∷ [])
+    all (objectKind ∷ checks.needs ("type" ∷ []) ∷ at "type" objectType ∷ at "attributes" objectKind ∷ at "children" links ∷ at "parents" links ∷ at "geometry" (geometries n code) ∷ [])
 
 object-with : (n : ℕ) (v : Json) → objectWith n (codeOf objectWords (textIn (find "type" v))) v ≡ cityObject n v
 unfolding objectWith cityObject typeText
@@ -187,8 +187,8 @@ object-with n v = refl
 
 pub object-all : {x t : List ℕ} {i : ℕ} (n best a b c d e f : ℕ) {code r : ℕ} {kind attributes children parents geometry : Found}
     → Seeks (λ v. find "type" v) x t i kind → Seeks (λ v. find "attributes" v) x t i attributes → Seeks (λ v. find "children" v) x t i children → Seeks (λ v. find "parents" v) x t i parents → Seeks (λ v. find "geometry" v) x t i geometry
-    → GivesFound (λ o. codeOf objectWords (textIn o)) x t kind code → Gives (λ v. least best (isObject v)) x t i a → Needs x t kind i a b → GivesFound (λ o. least b (on objectType o)) x t kind c
-    → GivesFound (λ o. least c (on isObject o)) x t attributes d → GivesFound (λ o. least d (on links o)) x t children e → GivesFound (λ o. least e (on links o)) x t parents f
+    → GivesFound (λ o. codeOf objectWords (textIn o)) x t kind code → Gives (λ v. least best (objectKind v)) x t i a → Needs x t kind i a b → GivesFound (λ o. least b (on objectType o)) x t kind c
+    → GivesFound (λ o. least c (on objectKind o)) x t attributes d → GivesFound (λ o. least d (on links o)) x t children e → GivesFound (λ o. least e (on links o)) x t parents f
     → GivesFound (λ o. least f (on (geometries n code) o)) x t geometry r → Gives (λ v. least best (cityObject n v)) x t i r
 unfolding objectWith
 object-all {x} {t} {i} n best a b c d e f {code} {r} k l m o q p s u w y z h g =
@@ -196,10 +196,10 @@ object-all {x} {t} {i} n best a b c d e f {code} {r} k l m o q p s u w y z h g =
   where
     whole : Gives (λ v. least best (objectWith n code v)) x t i r
     whole =
-        all-then best a isObject _ s
+        all-then best a objectKind _ s
         (all-then a b (checks.needs ("type" ∷ [])) _ (needs-then a b "type" [] k u needs-none)
         (all-then b c (at "type" objectType) _ (at-gives b "type" objectType k w)
-        (all-then c d (at "attributes" isObject) _ (at-gives c "attributes" isObject l y)
+        (all-then c d (at "attributes" objectKind) _ (at-gives c "attributes" objectKind l y)
         (all-then d e (at "children" links) _ (at-gives d "children" links m z)
         (all-then e f (at "parents" links) _ (at-gives e "parents" links o h)
         (all-then f r (at "geometry" (geometries n code)) [] (at-gives f "geometry" (geometries n code) q g) all-none))))))

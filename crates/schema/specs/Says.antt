@@ -1,4 +1,4 @@
--- What the walk over a node table asks and tells. Assumes nothing: these are definitions.
+-- What the walk over a node table asks and tells.
 use mathlib.Core.Path.{_≡_}
 use mathlib.Core.Bool.{Bool, true, cond, not, _||_}
 use mathlib.Core.List.{List, [], _∷_}

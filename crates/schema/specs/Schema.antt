@@ -1,4 +1,4 @@
--- Rules 7 to 14 of document 01, as a schema: all places at which a tree breaks them. Assumes nothing: these are definitions.
+-- Rules 7 to 14 of document 01, as a schema: all places at which a tree breaks them.
 use Prim.Native.Nat.{ℕ}
 use Prim.Native.String.{String}
 use mathlib.Core.Bool.{Bool, cond, not, _||_}
@@ -14,8 +14,8 @@ use Rattle.json.specs.Tree.{Json}
 use Rattle.nodes.specs.Access.{members, Member, find}
 use Rattle.nodes.specs.Faults.{fault}
 use Rattle.fields.specs.Fields.{typeText, countIn}
-use Rattle.shapes.specs.Checks.{Check, all, at, each, eachMember, isObject, isString, isNumber, isArray, needs, text}
-use Rattle.shapes.specs.Shapes.{holdsThree, inPairRange, vertex, shaped, near, matches, isNil}
+use Rattle.shapes.specs.Checks.{Check, all, at, eachElement, eachMember, objectKind, stringKind, numberKind, arrayKind, needs, text, isEmpty}
+use Rattle.shapes.specs.Shapes.{threeEntries, pairRange, vertex, shaped, ranged, matches}
 
 -- ---- words (rules 10 and 11)
 
@@ -34,66 +34,66 @@ isSurfaceType t = isOne surfaceWords t || isAddedName t
 -- ---- the schema
 
 -- a string that is this word
-unfoldable pub wordIs : List ℕ → Check
-unfolding all isString text same
-wordIs w = all (isString ∷ text 10 (same w) ∷ [])
+unfoldable pub oneWord : List ℕ → Check
+unfolding all stringKind text same
+oneWord w = all (stringKind ∷ text 10 (same w) ∷ [])
 
 unfoldable pub word : String → Check
-unfolding wordIs ascii
-word w = wordIs (ascii w)
+unfolding oneWord ascii
+word w = oneWord (ascii w)
 
 -- a city object's type
 unfoldable pub objectType : Check
-unfolding all isString text isObjectType isAdded
-objectType = all (isString ∷ text 10 isObjectType ∷ text 11 (λ w. not (isAdded w)) ∷ [])
+unfolding all stringKind text isObjectType isAdded
+objectType = all (stringKind ∷ text 10 isObjectType ∷ text 11 (λ w. not (isAdded w)) ∷ [])
 
 -- the type of a geometry, whose code (0: none) is given, of an object whose type has a code
 unfoldable pub geometryType : ℕ → ℕ → Check
-unfolding all isString text isGeometryType is isPermitted
+unfolding all stringKind text isGeometryType is isPermitted
 geometryType object code =
-    all (isString ∷ text 10 isGeometryType ∷ text 11 (λ w. not (is "GeometryInstance" w)) ∷ text 14 (λ w. eqb code 0 || isPermitted object code) ∷ [])
+    all (stringKind ∷ text 10 isGeometryType ∷ text 11 (λ w. not (is "GeometryInstance" w)) ∷ text 14 (λ w. eqb code 0 || isPermitted object code) ∷ [])
 
 unfoldable pub lod : Check
-unfolding all isString text isLod
-lod = all (isString ∷ text 10 isLod ∷ [])
+unfolding all stringKind text isLod
+lod = all (stringKind ∷ text 10 isLod ∷ [])
 
 unfoldable pub surfaceType : Check
-unfolding all isString text isSurfaceType
-surfaceType = all (isString ∷ text 10 isSurfaceType ∷ [])
+unfolding all stringKind text isSurfaceType
+surfaceType = all (stringKind ∷ text 10 isSurfaceType ∷ [])
 
 -- the boundary of a geometry whose type has this code (0: none), with so many vertices
 unfoldable pub boundary : ℕ → ℕ → Check
-unfolding shaped near depth
-boundary vertices code v = cond (eqb code 0) [] (shaped (depth code) v ++ near vertices (depth code) v)
+unfolding shaped ranged depth
+boundary vertices code v = cond (eqb code 0) [] (shaped (depth code) v ++ ranged vertices (depth code) v)
 
 unfoldable pub boundaries : ℕ → ℕ → Check
-unfolding all isArray boundary
-boundaries vertices code = all (isArray ∷ boundary vertices code ∷ [])
+unfolding all arrayKind boundary
+boundaries vertices code = all (arrayKind ∷ boundary vertices code ∷ [])
 
 unfoldable pub surface : Check
-unfolding all isObject needs at surfaceType
-surface = all (isObject ∷ needs ("type" ∷ []) ∷ at "type" surfaceType ∷ [])
+unfolding all objectKind needs at surfaceType
+surface = all (objectKind ∷ needs ("type" ∷ []) ∷ at "type" surfaceType ∷ [])
 
 unfoldable pub surfaces : Check
-unfolding all isArray each surface
-surfaces = all (isArray ∷ each surface ∷ [])
+unfolding all arrayKind eachElement surface
+surfaces = all (arrayKind ∷ eachElement surface ∷ [])
 
 -- `values` over a boundary, with so many surfaces: "it is judged only if the geometry's boundary is well shaped"
 unfoldable pub overBoundary : ℕ → ℕ → Option Json → Check
-unfolding matches near valuesDepth shaped depth isNil
+unfolding matches ranged valuesDepth shaped depth isEmpty
 overBoundary count code option.none v = []
 overBoundary count code (some b) v =
     cond (eqb code 0) []
-    (cond (isNil (shaped (depth code) b)) (matches (valuesDepth code) b v) [] ++ near count (valuesDepth code) v)
+    (cond (isEmpty (shaped (depth code) b)) (matches (valuesDepth code) b v) [] ++ ranged count (valuesDepth code) v)
 
 unfoldable pub values : ℕ → ℕ → Option Json → Check
-unfolding all isArray overBoundary
-values count code b = all (isArray ∷ overBoundary count code b ∷ [])
+unfolding all arrayKind overBoundary
+values count code b = all (arrayKind ∷ overBoundary count code b ∷ [])
 
 unfoldable pub semantics : ℕ → Option Json → Check
-unfolding all isObject needs at surfaces values countIn find
+unfolding all objectKind needs at surfaces values countIn find
 semantics code b v =
-    all (isObject ∷ needs ("surfaces" ∷ "values" ∷ [])
+    all (objectKind ∷ needs ("surfaces" ∷ "values" ∷ [])
     ∷ at "surfaces" surfaces
     ∷ at "values" (values (countIn (find "surfaces" v)) code b)
     ∷ []) v
@@ -105,10 +105,10 @@ needsLod v = cond (is "GeometryInstance" (typeText v)) [] (needs ("lod" ∷ []) 
 
 -- a geometry of an object whose type has this code, with so many vertices
 unfoldable pub geometry : ℕ → ℕ → Check
-unfolding all isObject needs needsLod at geometryType lod codeOf geometryWords typeText boundaries semantics find
+unfolding all objectKind needs needsLod at geometryType lod codeOf geometryWords typeText boundaries semantics find
 geometry vertices object v =
     let code = codeOf geometryWords (typeText v) in
-    all (isObject ∷ needs ("type" ∷ "boundaries" ∷ []) ∷ needsLod
+    all (objectKind ∷ needs ("type" ∷ "boundaries" ∷ []) ∷ needsLod
     ∷ at "type" (geometryType object code)
     ∷ at "lod" lod
     ∷ at "boundaries" (boundaries vertices code)
@@ -116,20 +116,20 @@ geometry vertices object v =
     ∷ []) v
 
 unfoldable pub geometries : ℕ → ℕ → Check
-unfolding all isArray each geometry
-geometries vertices object = all (isArray ∷ each (geometry vertices object) ∷ [])
+unfolding all arrayKind eachElement geometry
+geometries vertices object = all (arrayKind ∷ eachElement (geometry vertices object) ∷ [])
 
 -- a list of IDs
 unfoldable pub links : Check
-unfolding all isArray each isString
-links = all (isArray ∷ each isString ∷ [])
+unfolding all arrayKind eachElement stringKind
+links = all (arrayKind ∷ eachElement stringKind ∷ [])
 
 unfoldable pub cityObject : ℕ → Check
-unfolding all isObject needs at objectType links geometries codeOf objectWords typeText
+unfolding all objectKind needs at objectType links geometries codeOf objectWords typeText
 cityObject vertices v =
-    all (isObject ∷ needs ("type" ∷ [])
+    all (objectKind ∷ needs ("type" ∷ [])
     ∷ at "type" objectType
-    ∷ at "attributes" isObject
+    ∷ at "attributes" objectKind
     ∷ at "children" links
     ∷ at "parents" links
     ∷ at "geometry" (geometries vertices (codeOf objectWords (typeText v)))
@@ -141,32 +141,32 @@ unfolding fault
 nameFault [] = []
 nameFault (m ∷ ms) = fault 9 (m .0 .place) ∷ []
 
-unfoldable pub notTooMany : Check
+unfoldable pub objectLimit : Check
 unfolding nameFault members
-notTooMany v = nameFault (drop 1024 (members v))
+objectLimit v = nameFault (drop 1024 (members v))
 
 unfoldable pub cityObjects : ℕ → Check
-unfolding all isObject notTooMany eachMember cityObject
-cityObjects vertices = all (isObject ∷ notTooMany ∷ eachMember (cityObject vertices) ∷ [])
+unfolding all objectKind objectLimit eachMember cityObject
+cityObjects vertices = all (objectKind ∷ objectLimit ∷ eachMember (cityObject vertices) ∷ [])
 
 -- `scale` and `translate`
 unfoldable pub threePairs : Check
-unfolding all isArray each isNumber holdsThree inPairRange
-threePairs = all (isArray ∷ each isNumber ∷ holdsThree ∷ each inPairRange ∷ [])
+unfolding all arrayKind eachElement numberKind threeEntries pairRange
+threePairs = all (arrayKind ∷ eachElement numberKind ∷ threeEntries ∷ eachElement pairRange ∷ [])
 
 unfoldable pub transform : Check
-unfolding all isObject needs at threePairs
-transform = all (isObject ∷ needs ("scale" ∷ "translate" ∷ []) ∷ at "scale" threePairs ∷ at "translate" threePairs ∷ [])
+unfolding all objectKind needs at threePairs
+transform = all (objectKind ∷ needs ("scale" ∷ "translate" ∷ []) ∷ at "scale" threePairs ∷ at "translate" threePairs ∷ [])
 
 unfoldable pub vertices : Check
-unfolding all isArray each vertex
-vertices = all (isArray ∷ each vertex ∷ [])
+unfolding all arrayKind eachElement vertex
+vertices = all (arrayKind ∷ eachElement vertex ∷ [])
 
 -- the root
 unfoldable pub cityJson : Check
-unfolding all isObject needs at word transform cityObjects vertices countIn find
+unfolding all objectKind needs at word transform cityObjects vertices countIn find
 cityJson v =
-    all (isObject ∷ needs ("type" ∷ "version" ∷ "transform" ∷ "CityObjects" ∷ "vertices" ∷ [])
+    all (objectKind ∷ needs ("type" ∷ "version" ∷ "transform" ∷ "CityObjects" ∷ "vertices" ∷ [])
     ∷ at "type" (word "CityJSON")
     ∷ at "version" (word "2.0")
     ∷ at "transform" transform

@@ -6,20 +6,21 @@ ghost use lib.ListN.{length};
 ghost use Rattle.words.specs.Words.{objectWords, geometryWords, depth};
 ghost use Rattle.nodes.specs.Faults.{least};
 ghost use Rattle.nodes.specs.Says.{Node, Sought, Gives, GivesFound};
-ghost use Rattle.shapes.specs.Checks.{on, isObject, eachMember};
-ghost use Rattle.shapes.specs.Shapes.{shaped, isNil};
+ghost use Rattle.shapes.specs.Checks.{on, objectKind, eachMember, isEmpty};
+ghost use Rattle.shapes.specs.Shapes.{shaped};
 ghost use Rattle.nodes.specs.Access.{Member};
 ghost use Rattle.fields.specs.Says.{CodeOf};
-ghost use Rattle.schema.specs.Schema.{wordIs, objectType, geometryType, surfaceType, boundaries, overBoundary, nameFault, cityJson};
+ghost use Rattle.schema.specs.Schema.{oneWord, objectType, geometryType, surfaceType, boundaries, overBoundary, nameFault, cityJson};
 ghost use Rattle.schema.specs.Schema as schema;
 ghost use Rattle.schema.specs.Says.{GivesBoth, GivesOver, GivesThree, lacksLod, ObjectNode, Named, Extra, FillsAt, IndexedFound, IndexedAt, SoundAt, SoundFound};
 use fields::Index;
 use nodes::Found;
+use nodes::NO_FAULT;
 
 // Rules 7 and 10: a string that is one word.
 fn one_word(text: &[u8], table: &[u32], found: Found, word: &[u8], best: u32) -> u32
     requires { ⌜ (Sought (now text) (now table) found) × (0 < length (now word)) ⌝ }
-    ensures { λ r. ⌜ GivesFound (λ o. least best (on (wordIs (now (word .entry))) o)) (now (text .entry)) (now (table .entry)) found r ⌝ }
+    ensures { λ r. ⌜ GivesFound (λ o. least best (on (oneWord (now (word .entry))) o)) (now (text .entry)) (now (table .entry)) found r ⌝ }
 {
     let Found::At(k) = found else {
         return best;
@@ -174,12 +175,12 @@ fn surfaces(text: &[u8], table: &[u32], found: Found, best: u32) -> u32
 // Is the boundary at a node well shaped? That is known of a sound one.
 fn is_shaped(text: &[u8], table: &[u32], i: usize, code: usize, sound: bool) -> bool
     requires { ⌜ (Node (now text) (now table) i) × (SoundAt (now text) (now table) i code sound) ⌝ }
-    ensures { λ r. ⌜ Gives (λ v. isNil (shaped (depth code) v)) (now (text .entry)) (now (table .entry)) i r ⌝ }
+    ensures { λ r. ⌜ Gives (λ v. isEmpty (shaped (depth code) v)) (now (text .entry)) (now (table .entry)) i r ⌝ }
 {
     if sound {
         return true;
     }
-    shapes::shaped(text, table, i, words::depth_of(code), 1179648) == 1179648
+    shapes::shaped(text, table, i, words::depth_of(code), NO_FAULT) == NO_FAULT
 }
 
 // Rule 12 of `values` over a boundary, which is judged only if the boundary is well shaped, and rule 13 of its integers.
@@ -202,7 +203,7 @@ fn over_boundary(
     if code == 0 {
         return best;
     }
-    let far = shapes::near(text, table, v, words::values_depth_of(code), surfaces, best);
+    let far = shapes::ranged(text, table, v, words::values_depth_of(code), surfaces, best);
     if !is_shaped(text, table, b, code, sound) {
         return far;
     }
@@ -370,7 +371,7 @@ fn ids(text: &[u8], table: &[u32], found: Found, best: u32) -> u32
 // Rule 7: an object was found, or nothing.
 fn found_object(text: &[u8], table: &[u32], found: Found, best: u32) -> u32
     requires { ⌜ Sought (now text) (now table) found ⌝ }
-    ensures { λ r. ⌜ GivesFound (λ o. least best (on isObject o)) (now (text .entry)) (now (table .entry)) found r ⌝ }
+    ensures { λ r. ⌜ GivesFound (λ o. least best (on objectKind o)) (now (text .entry)) (now (table .entry)) found r ⌝ }
 {
     let Found::At(k) = found else {
         return best;

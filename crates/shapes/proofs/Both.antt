@@ -1,4 +1,4 @@
--- A loop over the elements of two arrays, side by side. Assumes nothing.
+-- A loop over the elements of two arrays, side by side.
 use Prim.Native.Nat.{ℕ, suc, zero, _+_, _-_, _<_, _≤_}
 use mathlib.Core.Path.{_≡_, refl, sym, ap, _∙_}
 use mathlib.Core.Bool.{Bool, true, false, cond, not, _&&_, _||_}
@@ -35,14 +35,14 @@ pub record Next (x t : List ℕ) (j : ℕ) (P : Items → Type 0) : Type 0 where
 
 rest-begin : {x t : List ℕ} {b : ℕ} {w : Json} (P : List Json → Type 0) → Sub x t b w → P (elements w) → Rest x t (b + 3) (λ ws. P (listed ws))
 unfolding elements listed
-rest-begin P (null w) p = record { items = tree.none; stand = nil; holds = p }
-rest-begin P (bool w) p = record { items = tree.none; stand = nil; holds = p }
-rest-begin P (num w n r) p = record { items = tree.none; stand = nil; holds = p }
-rest-begin P (str q) p = record { items = tree.none; stand = nil; holds = p }
+rest-begin P (null w) p = record { items = tree.noItems; stand = nil; holds = p }
+rest-begin P (bool w) p = record { items = tree.noItems; stand = nil; holds = p }
+rest-begin P (num w n r) p = record { items = tree.noItems; stand = nil; holds = p }
+rest-begin P (str q) p = record { items = tree.noItems; stand = nil; holds = p }
 rest-begin P (arr {vs = vs} w ss) p = record { items = vs; stand = ss; holds = p }
-rest-begin P (obj w ms) p = record { items = tree.none; stand = nil; holds = p }
+rest-begin P (obj w ms) p = record { items = tree.noItems; stand = nil; holds = p }
 
-rest-next : {x t : List ℕ} {j : ℕ} {P : Items → Type 0} → Rest x t j P → (P tree.none → ⊥) → Next x t j P
+rest-next : {x t : List ℕ} {j : ℕ} {P : Items → Type 0} → Rest x t j P → (P tree.noItems → ⊥) → Next x t j P
 rest-next {x} {t} {j} {P} r h = go (r .stand) (r .holds)
   where
     go : {vs : Items} → Subs x t j vs → P vs → Next x t j P

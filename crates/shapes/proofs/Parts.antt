@@ -1,4 +1,4 @@
--- Integers, pairs and shapes at a node, from what the code's tests say. Assumes nothing.
+-- Integers, pairs and shapes at a node, from what the code's tests say.
 use Prim.Native.Nat.{ℕ, suc, zero, _+_, _-_, _<_, _≤_, min}
 use mathlib.Core.Path.{_≡_, refl, sym, ap, _∙_}
 use mathlib.Core.Bool.{Bool, true, false, not, _&&_, _||_}
@@ -23,8 +23,8 @@ use Rattle.nodes.specs.Access.{isNullValue, isNumberValue, isArrayValue, listed
 use Rattle.nodes.specs.Faults.{fault, least}
 use Rattle.nodes.specs.Says.{Node, Gives}
 use Rattle.nodes.specs.Laws.{place-at, numeral-at, elements-begin, least-++}
-use Rattle.shapes.specs.Checks.{unless, each, isArray, isNumber, numeral}
-use Rattle.shapes.specs.Shapes.{isIntegerValue, allIntegers, holdsThree, isPair, inPairRange, orFault, pairOrFault, isTriple, coordinate, vertex, shaped, near}
+use Rattle.shapes.specs.Checks.{unless, eachElement, arrayKind, numberKind, numeral, isSome}
+use Rattle.shapes.specs.Shapes.{isIntegerValue, allIntegers, threeEntries, pairRange, orFault, pairOrFault, isTriple, coordinate, vertex, shaped, ranged}
 use Rattle.shapes.specs.Says.{pairedAs, GivesPair}
 use Rattle.shapes.specs.declared.Paired.{Paired}
 use Rattle.shapes.specs.declared.Paired.the-variants.{Fault}
@@ -51,15 +51,15 @@ triple-of v e = go (isArrayValue v) (eqb (length (elements v)) 3) (allIntegers (
     go false false c e = e
 
 -- the checks of a depth above 0, by those of one less
-pub shaped-suc : (d : ℕ) → (d ≡ 0 → ⊥) → (v : Json) → shaped d v ≡ unless (isArrayValue v) 12 v ++ each (shaped (d - 1)) v
-unfolding shaped each
+pub shaped-suc : (d : ℕ) → (d ≡ 0 → ⊥) → (v : Json) → shaped d v ≡ unless (isArrayValue v) 12 v ++ eachElement (shaped (d - 1)) v
+unfolding shaped eachElement
 shaped-suc zero h v = absurd (h refl)
-shaped-suc (suc d) h v = let e : d ≡ suc d - 1 = omega arith in ap (λ (k : ℕ). unless (isArrayValue v) 12 v ++ each (shaped k) v) e
+shaped-suc (suc d) h v = let e : d ≡ suc d - 1 = omega arith in ap (λ (k : ℕ). unless (isArrayValue v) 12 v ++ eachElement (shaped k) v) e
 
-pub near-suc : (count d : ℕ) → (d ≡ 0 → ⊥) → (v : Json) → near count d v ≡ each (near count (d - 1)) v
-unfolding near each
-near-suc count zero h v = absurd (h refl)
-near-suc count (suc d) h v = let e : d ≡ suc d - 1 = omega arith in ap (λ (k : ℕ). each (near count k) v) e
+pub ranged-suc : (count d : ℕ) → (d ≡ 0 → ⊥) → (v : Json) → ranged count d v ≡ eachElement (ranged count (d - 1)) v
+unfolding ranged eachElement
+ranged-suc count zero h v = absurd (h refl)
+ranged-suc count (suc d) h v = let e : d ≡ suc d - 1 = omega arith in ap (λ (k : ℕ). eachElement (ranged count k) v) e
 
 -- the fault where there is one, if it is less than best
 abbrev orBest : ℕ → Decimal ⊎ ℕ → ℕ
@@ -84,12 +84,12 @@ module _ {x t : List ℕ} {i : ℕ} where
   value-integer {b} {r} g e h = record { is = λ v s. let z : isNullValue v ≡ false = sym (g .is v s) ∙ e in rw z (h .is v s ∙ sym (or-false (isIntegerValue v))) }
 
   -- three numbers
-  pub three-none : (best : ℕ) {b : Bool} → Gives isArrayValue x t i b → not b ≡ true → Gives (λ v. least best (holdsThree v)) x t i best
-  unfolding holdsThree
+  pub three-none : (best : ℕ) {b : Bool} → Gives isArrayValue x t i b → not b ≡ true → Gives (λ v. least best (threeEntries v)) x t i best
+  unfolding threeEntries
   three-none best {b} g e = record { is = λ v s. unless-true best 12 v (ap (λ (b : Bool). not b || eqb (length (elements v)) 3) (sym (g .is v s) ∙ not-true b e)) }
 
-  pub three-is : (best : ℕ) {b : Bool} {n r : ℕ} → Gives isArrayValue x t i b → not b ≡ false → Gives (λ v. length (elements v)) x t i n → Gives (λ v. least best (unless (eqb n 3) 12 v)) x t i r → Gives (λ v. least best (holdsThree v)) x t i r
-  unfolding holdsThree
+  pub three-is : (best : ℕ) {b : Bool} {n r : ℕ} → Gives isArrayValue x t i b → not b ≡ false → Gives (λ v. length (elements v)) x t i n → Gives (λ v. least best (unless (eqb n 3) 12 v)) x t i r → Gives (λ v. least best (threeEntries v)) x t i r
+  unfolding threeEntries
   three-is best {b} {n} {r} g e k u = record { is = λ v s. u .is v s ∙ ap (λ (b : Bool). least best (unless b 12 v)) (told v s) }
     where
       told : (v : Json) → Sub x t i v → eqb n 3 ≡ not (isArrayValue v) || eqb (length (elements v)) 3
@@ -107,9 +107,9 @@ module _ {x t : List ℕ} {i : ℕ} where
     pair-high = rw o (numeral-at (d .stands) (sym (g .is (d .value) (d .stands))) .high)
 
   -- a pair in range
-  pub pair-none : (best : ℕ) {b : Bool} → Gives isNumberValue x t i b → not b ≡ true → Gives (λ v. least best (inPairRange v)) x t i best
-  unfolding inPairRange
-  pair-none best g e = numeral-none best 13 (λ raw. isPair (pairOf raw)) g e
+  pub pair-none : (best : ℕ) {b : Bool} → Gives isNumberValue x t i b → not b ≡ true → Gives (λ v. least best (pairRange v)) x t i best
+  unfolding pairRange
+  pair-none best g e = numeral-none best 13 (λ raw. isSome (pairOf raw)) g e
 
   module _ {p e : ℕ} (a : Numeral) (g : Gives isNumberValue x t i true) (q : p ≡ getD t i 0) (o : e ≡ getD t (i + 1) 0) (m : pairIn a ≡ pairOf (slice p e x)) where
     pair-bytes : (v : Json) → Sub x t i v → pairIn a ≡ pairOf (numeralOf v)
@@ -124,21 +124,21 @@ module _ {x t : List ℕ} {i : ℕ} where
     pair-taken k = record { is = λ v s. rw (← pair-bytes v s, k) }
 
   module _ (best : ℕ) {b : Bool} {a : Paired} (g : Gives isNumberValue x t i b) (h : not b ≡ false) (r : GivesPair x t i a) where
-    ranged : (v : Json) → Sub x t i v → least best (inPairRange v) ≡ orBest best (pairedAs a)
-    unfolding pairOrFault inPairRange numeral unless isPair orFault least
-    ranged v s = by (pairOf (numeralOf v)) refl ∙ ap (orBest best) (sym (r .is v s))
+    pair-least : (v : Json) → Sub x t i v → least best (pairRange v) ≡ orBest best (pairedAs a)
+    unfolding pairOrFault pairRange numeral unless isSome orFault least
+    pair-least v s = by (pairOf (numeralOf v)) refl ∙ ap (orBest best) (sym (r .is v s))
       where
-        by : (o : Option Decimal) → pairOf (numeralOf v) ≡ o → least best (inPairRange v) ≡ orBest best (orFault v o)
+        by : (o : Option Decimal) → pairOf (numeralOf v) ≡ o → least best (pairRange v) ≡ orBest best (orFault v o)
         by option.none e = let z : isNumberValue v ≡ true = sym (g .is v s) ∙ not-false b h in rw (z, e)
         by (some d) e = let z : isNumberValue v ≡ true = sym (g .is v s) ∙ not-false b h in rw (z, e)
 
-    pub pair-in : {n d : ℤ} → a ≡ paired.Pair n d → Gives (λ v. least best (inPairRange v)) x t i best
+    pub pair-in : {n d : ℤ} → a ≡ paired.Pair n d → Gives (λ v. least best (pairRange v)) x t i best
     unfolding pairedAs
-    pair-in k = record { is = λ v s. sym (ranged v s ∙ ap (λ c. orBest best (pairedAs c)) k) }
+    pair-in k = record { is = λ v s. sym (pair-least v s ∙ ap (λ c. orBest best (pairedAs c)) k) }
 
-    pub pair-out : {f c : ℕ} → a ≡ Fault f → c ≡ min best f → Gives (λ v. least best (inPairRange v)) x t i c
+    pub pair-out : {f c : ℕ} → a ≡ Fault f → c ≡ min best f → Gives (λ v. least best (pairRange v)) x t i c
     unfolding pairedAs
-    pair-out k z = record { is = λ v s. z ∙ sym (ranged v s ∙ ap (λ c. orBest best (pairedAs c)) k) }
+    pair-out k z = record { is = λ v s. z ∙ sym (pair-least v s ∙ ap (λ c. orBest best (pairedAs c)) k) }
 
   -- a coordinate
   pub coordinate-none : (best : ℕ) {b : Bool} → Gives isNumberValue x t i b → not b ≡ true → Gives (λ v. least best (coordinate v)) x t i best
@@ -150,17 +150,17 @@ module _ {x t : List ℕ} {i : ℕ} where
   coordinate-is best g h q o m u = numeral-is best 13 (λ raw. fits32 (integer raw)) g h q o m u
 
   -- an integer below the count
-  pub below-none : (best count : ℕ) {b : Bool} → Gives isNumberValue x t i b → not b ≡ true → Gives (λ v. least best (near count 0 v)) x t i best
-  unfolding near
+  pub below-none : (best count : ℕ) {b : Bool} → Gives isNumberValue x t i b → not b ≡ true → Gives (λ v. least best (ranged count 0 v)) x t i best
+  unfolding ranged
   below-none best count g e = numeral-none best 13 (λ raw. isBelow count (integer raw)) g e
 
-  pub below-is : (best count : ℕ) {p e r : ℕ} {b k : Bool} → Gives isNumberValue x t i b → not b ≡ false → p ≡ getD t i 0 → e ≡ getD t (i + 1) 0 → k ≡ isBelow count (integer (slice p e x)) → Gives (λ v. least best (unless k 13 v)) x t i r → Gives (λ v. least best (near count 0 v)) x t i r
-  unfolding near
+  pub below-is : (best count : ℕ) {p e r : ℕ} {b k : Bool} → Gives isNumberValue x t i b → not b ≡ false → p ≡ getD t i 0 → e ≡ getD t (i + 1) 0 → k ≡ isBelow count (integer (slice p e x)) → Gives (λ v. least best (unless k 13 v)) x t i r → Gives (λ v. least best (ranged count 0 v)) x t i r
+  unfolding ranged
   below-is best count g h q o m u = numeral-is best 13 (λ raw. isBelow count (integer raw)) g h q o m u
 
   -- three pairs
-  pub three-pairs-is : (best k s : ℕ) {r : ℕ} → Gives (λ v. least best (isArray v)) x t i k → Gives (λ v. least k (holdsThree v)) x t i s → Gives (λ v. least s (each isNumber v ++ each inPairRange v)) x t i r → Gives (λ v. least best (isArray v ++ each isNumber v ++ holdsThree v ++ each inPairRange v)) x t i r
-  three-pairs-is best k s f g h = record { is = λ v z. h .is v z ∙ (rw (g .is v z, f .is v z) (mixed best (isArray v) (each isNumber v) (holdsThree v) (each inPairRange v))) }
+  pub three-pairs-is : (best k s : ℕ) {r : ℕ} → Gives (λ v. least best (arrayKind v)) x t i k → Gives (λ v. least k (threeEntries v)) x t i s → Gives (λ v. least s (eachElement numberKind v ++ eachElement pairRange v)) x t i r → Gives (λ v. least best (arrayKind v ++ eachElement numberKind v ++ threeEntries v ++ eachElement pairRange v)) x t i r
+  three-pairs-is best k s f g h = record { is = λ v z. h .is v z ∙ (rw (g .is v z, f .is v z) (mixed best (arrayKind v) (eachElement numberKind v) (threeEntries v) (eachElement pairRange v))) }
     where
       mixed : (b : ℕ) (p q r s : List ℕ) → least (least (least b p) r) (q ++ s) ≡ least b (((p ++ q) ++ r) ++ s)
       mixed b p q r s = simp least-++ (ap (λ (m : ℕ). least m s) (least-turn (least b p) r q))
@@ -191,7 +191,7 @@ module _ {x t : List ℕ} {i : ℕ} where
   unfolding vertex
   vertex-no best {b} g e u = record { is = λ v s. let z : isTriple v ≡ false = sym (g .is v s) ∙ not-true b e in rw z (u .is v s) }
 
-  pub vertex-is : (best : ℕ) {b : Bool} {r : ℕ} → Gives isTriple x t i b → not b ≡ false → Gives (λ v. least best (each coordinate v)) x t i r → Gives (λ v. least best (vertex v)) x t i r
+  pub vertex-is : (best : ℕ) {b : Bool} {r : ℕ} → Gives isTriple x t i b → not b ≡ false → Gives (λ v. least best (eachElement coordinate v)) x t i r → Gives (λ v. least best (vertex v)) x t i r
   unfolding vertex
   vertex-is best {b} g e u = record { is = λ v s. let z : isTriple v ≡ true = sym (g .is v s) ∙ not-false b e in rw z (u .is v s) }
 
@@ -201,22 +201,22 @@ module _ {x t : List ℕ} {i : ℕ} where
     unfolding shaped
     shaped-leaf e g u = rw e (unless-told best 12 g u)
 
-    shaped-deep : {r : ℕ} → (depth ≡ 0 → ⊥) → Gives (λ v. least best (unless (isArrayValue v) 12 v ++ each (shaped (depth - 1)) v)) x t i r → Gives (λ v. least best (shaped depth v)) x t i r
+    shaped-deep : {r : ℕ} → (depth ≡ 0 → ⊥) → Gives (λ v. least best (unless (isArrayValue v) 12 v ++ eachElement (shaped (depth - 1)) v)) x t i r → Gives (λ v. least best (shaped depth v)) x t i r
     shaped-deep h g = record { is = λ v s. g .is v s ∙ ap (least best) (sym (shaped-suc depth h v)) }
 
     pub shaped-no : {b : Bool} {r : ℕ} → (depth ≡ 0 → ⊥) → Gives isArrayValue x t i b → not b ≡ true → Gives (λ v. least best (unless false 12 v)) x t i r → Gives (λ v. least best (shaped depth v)) x t i r
-    shaped-no {b} h g e u = shaped-deep h (kind-no best 12 (each (shaped (depth - 1))) g (each-none (shaped (depth - 1))) e (rw (not-true b e) u))
+    shaped-no {b} h g e u = shaped-deep h (kind-no best 12 (eachElement (shaped (depth - 1))) g (each-none (shaped (depth - 1))) e (rw (not-true b e) u))
 
-    pub shaped-yes : {b : Bool} {r : ℕ} → (depth ≡ 0 → ⊥) → Gives isArrayValue x t i b → not b ≡ false → Gives (λ v. least best (each (shaped (depth - 1)) v)) x t i r → Gives (λ v. least best (shaped depth v)) x t i r
-    shaped-yes h g e p = shaped-deep h (kind-yes best 12 (each (shaped (depth - 1))) g e p)
+    pub shaped-yes : {b : Bool} {r : ℕ} → (depth ≡ 0 → ⊥) → Gives isArrayValue x t i b → not b ≡ false → Gives (λ v. least best (eachElement (shaped (depth - 1)) v)) x t i r → Gives (λ v. least best (shaped depth v)) x t i r
+    shaped-yes h g e p = shaped-deep h (kind-yes best 12 (eachElement (shaped (depth - 1))) g e p)
 
   -- integers near at that depth
   module _ (best count depth : ℕ) where
-    pub near-leaf : {r : ℕ} → depth ≡ 0 → Gives (λ v. least best (near count 0 v)) x t i r → Gives (λ v. least best (near count depth v)) x t i r
-    near-leaf e g = rw e g
+    pub ranged-leaf : {r : ℕ} → depth ≡ 0 → Gives (λ v. least best (ranged count 0 v)) x t i r → Gives (λ v. least best (ranged count depth v)) x t i r
+    ranged-leaf e g = rw e g
 
-    pub near-deep : {r : ℕ} → (depth ≡ 0 → ⊥) → Gives (λ v. least best (each (near count (depth - 1)) v)) x t i r → Gives (λ v. least best (near count depth v)) x t i r
-    near-deep h g = record { is = λ v s. g .is v s ∙ ap (least best) (sym (near-suc count depth h v)) }
+    pub ranged-deep : {r : ℕ} → (depth ≡ 0 → ⊥) → Gives (λ v. least best (eachElement (ranged count (depth - 1)) v)) x t i r → Gives (λ v. least best (ranged count depth v)) x t i r
+    ranged-deep h g = record { is = λ v s. g .is v s ∙ ap (least best) (sym (ranged-suc count depth h v)) }
 
 -- A loop over the elements of the array at i, all of which were integers up to the node k
 pub record Integers (x t : List ℕ) (i n k : ℕ) : Type 0 where

@@ -1,4 +1,4 @@
--- What the proofs of several functions use, and what `search` is handed. Assumes nothing.
+-- What the proofs of several functions use, and what `search` is handed.
 use Prim.Native.Nat.{ℕ}
 use mathlib.Core.Path.{_≡_, sym, ap, _∙_}
 use mathlib.Core.Bool.{Bool, not, _||_}

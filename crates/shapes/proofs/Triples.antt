@@ -1,4 +1,4 @@
--- A vertex of three short integers. Assumes nothing.
+-- A vertex of three short integers.
 use Prim.Native.Nat.{ℕ, _+_, _-_, _*_, _^_, _<_, _≤_}
 use mathlib.Core.Path.{_≡_, refl, sym, ap, _∙_}
 use mathlib.Core.Bool.{Bool, true, false, not, _&&_, _||_}
@@ -19,7 +19,7 @@ use Rattle.json.specs.Laws.{words, Left, past, over, ended}
 use Rattle.nodes.specs.Access.{isNumberValue, isArrayValue, listed, elements, numeralOf}
 use Rattle.nodes.specs.Says.{Node, Gives}
 use Rattle.nodes.specs.Laws.{numeral-at, elements-begin}
-use Rattle.shapes.specs.Checks.{unless, forEach, each, numeral}
+use Rattle.shapes.specs.Checks.{unless, forEach, eachElement, numeral}
 use Rattle.shapes.specs.Shapes.{isIntegerValue, allIntegers, isTriple, coordinate, vertex}
 use Rattle.shapes.specs.Says.{Clears, IsSmall}
 use Rattle.shapes.specs.Laws.{integer-number}
@@ -76,7 +76,7 @@ sorted-more {w = w} {vs = vs} s a b =
     }
 
 sorted-vertex : {v : Json} → isArrayValue v ≡ true → Sorted v 3 [] → vertex v ≡ []
-unfolding vertex isTriple each forEach allIntegers
+unfolding vertex isTriple eachElement forEach allIntegers
 sorted-vertex a s = rw (a, s .count, s .whole) (s .fits)
 
 -- The elements before the node k of the array at i, m of them, are short integers, and the table goes on past the array at n

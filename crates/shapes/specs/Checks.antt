@@ -1,4 +1,4 @@
--- Checks of a value, each of which lists all faults that it finds. Assumes nothing: these are definitions.
+-- Checks of a value, each of which lists all faults that it finds.
 use Prim.Native.Nat.{ℕ}
 use Prim.Native.String.{String}
 use mathlib.Core.Bool.{Bool, true, false, cond, not, _||_}
@@ -38,9 +38,9 @@ forEach c [] = []
 forEach c (v ∷ vs) = c v ++ forEach c vs
 
 -- a check of each element
-unfoldable pub each : Check → Check
+unfoldable pub eachElement : Check → Check
 unfolding forEach elements
-each c v = forEach c (elements v)
+eachElement c v = forEach c (elements v)
 
 -- a check of each member's value
 unfoldable pub values : List Member → List Json
@@ -52,25 +52,29 @@ unfolding forEach values members
 eachMember c v = forEach c (values (members v))
 
 -- rule 7: wrong JSON kind, at the value
-unfoldable pub isObject : Check
+unfoldable pub objectKind : Check
 unfolding unless isObjectValue
-isObject v = unless (isObjectValue v) 7 v
+objectKind v = unless (isObjectValue v) 7 v
 
-unfoldable pub isString : Check
+unfoldable pub stringKind : Check
 unfolding unless isStringValue
-isString v = unless (isStringValue v) 7 v
+stringKind v = unless (isStringValue v) 7 v
 
-unfoldable pub isNumber : Check
+unfoldable pub numberKind : Check
 unfolding unless isNumberValue
-isNumber v = unless (isNumberValue v) 7 v
+numberKind v = unless (isNumberValue v) 7 v
 
-unfoldable pub isArray : Check
+unfoldable pub arrayKind : Check
 unfolding unless isArrayValue
-isArray v = unless (isArrayValue v) 7 v
+arrayKind v = unless (isArrayValue v) 7 v
 
-unfoldable pub isSome : Option Json → Bool
+unfoldable pub isSome : {A : Type 0} → Option A → Bool
 isSome option.none = false
 isSome (some v) = true
+
+unfoldable pub isEmpty : {A : Type 0} → List A → Bool
+isEmpty [] = true
+isEmpty (v ∷ vs) = false
 
 -- rule 8: required member absent, at the object; of a value of another kind it says nothing, since rule 7 has a fault there
 unfoldable pub needs : List String → Check

@@ -1,4 +1,4 @@
--- Laws for code that checks a value of a node table: the least fault of composed checks, and loops over the elements of an array and over the members of an object. Assumes nothing.
+-- Laws for code that checks a value of a node table: the least fault of composed checks, and loops over the elements of an array and over the members of an object.
 use Prim.Native.Nat.{ℕ, _+_, _-_, _*_, _^_, _<_, _≤_, min}
 use Prim.Native.String.{String}
 use mathlib.Core.Path.{_≡_, refl, sym, ap, _∙_}
@@ -23,7 +23,7 @@ use Rattle.nodes.specs.Says.{Node, Gives, Seeks}
 use Rattle.nodes.specs.declared.Found.{Found}
 use Rattle.nodes.specs.Walks.{node-room, node-second, node-first, node-onward}
 use Rattle.nodes.specs.Laws.{place-at, text-at, numeral-at, elements-begin, fields-begin, no-elements, no-members, least-++, least-comm}
-use Rattle.shapes.specs.Checks.{Check, unless, all, at, forEach, each, values, eachMember, isObject, isString, isNumber, isArray, isSome, needs, text, numeral}
+use Rattle.shapes.specs.Checks.{Check, unless, all, at, forEach, eachElement, values, eachMember, objectKind, stringKind, numberKind, arrayKind, isSome, needs, text, numeral}
 use Rattle.shapes.specs.Shapes.{isIntegerValue}
 use Rattle.shapes.specs.Says.{Needs}
 
@@ -52,13 +52,13 @@ least-forEach-++ b c d (v ∷ vs) =
     ∙ (least-forEach-++ (least b (c v ++ d v)) c d vs
     ∙ (sym (least-++ b (c v ++ d v) (forEach c vs ++ forEach d vs)) ∙ least-mix b (c v) (d v) (forEach c vs) (forEach d vs)))
 
-pub least-each-++ : (b : ℕ) (c d : Check) (v : Json) → least b (each (λ w. c w ++ d w) v) ≡ least b (each c v ++ each d v)
-unfolding each
+pub least-each-++ : (b : ℕ) (c d : Check) (v : Json) → least b (eachElement (λ w. c w ++ d w) v) ≡ least b (eachElement c v ++ eachElement d v)
+unfolding eachElement
 least-each-++ b c d v = least-forEach-++ b c d (elements v)
 
 -- a value that is no array has no faults in its elements, and one that is no object none in its members
-pub each-none : (c : Check) (v : Json) → isArrayValue v ≡ false → each c v ≡ []
-unfolding each forEach
+pub each-none : (c : Check) (v : Json) → isArrayValue v ≡ false → eachElement c v ≡ []
+unfolding eachElement forEach
 each-none c v e = ap (forEach c) (no-elements v e)
 
 pub eachMember-none : (c : Check) (v : Json) → isObjectValue v ≡ false → eachMember c v ≡ []
@@ -134,20 +134,20 @@ module _ {x t : List ℕ} {i : ℕ} where
 
   -- rule 7
   module _ (best : ℕ) {r : ℕ} (b : Bool) (u : Gives (λ v. least best (unless b 7 v)) x t i r) where
-    pub object-is : Gives isObjectValue x t i b → Gives (λ v. least best (isObject v)) x t i r
-    unfolding isObject
+    pub object-is : Gives isObjectValue x t i b → Gives (λ v. least best (objectKind v)) x t i r
+    unfolding objectKind
     object-is g = unless-told best 7 g u
 
-    pub string-is : Gives isStringValue x t i b → Gives (λ v. least best (isString v)) x t i r
-    unfolding isString
+    pub string-is : Gives isStringValue x t i b → Gives (λ v. least best (stringKind v)) x t i r
+    unfolding stringKind
     string-is g = unless-told best 7 g u
 
-    pub number-is : Gives isNumberValue x t i b → Gives (λ v. least best (isNumber v)) x t i r
-    unfolding isNumber
+    pub number-is : Gives isNumberValue x t i b → Gives (λ v. least best (numberKind v)) x t i r
+    unfolding numberKind
     number-is g = unless-told best 7 g u
 
-    pub array-is : Gives isArrayValue x t i b → Gives (λ v. least best (isArray v)) x t i r
-    unfolding isArray
+    pub array-is : Gives isArrayValue x t i b → Gives (λ v. least best (arrayKind v)) x t i r
+    unfolding arrayKind
     array-is g = unless-told best 7 g u
 
   -- a rule about a numeral's bytes
@@ -177,23 +177,23 @@ module _ {x t : List ℕ} {i : ℕ} where
 -- A loop over the elements of the array at the node i that checks each with c has come to the node k, of those before n, with the least fault acc
 pub record Pass (c : Check) (x t : List ℕ) (i best n k acc : ℕ) : Type 0 where
   pub node : Node x t i
-  pub left : (v : Json) → Sub x t i v → Left x t k n (λ vs. least acc (forEach c (listed vs)) ≡ least best (each c v))
+  pub left : (v : Json) → Sub x t i v → Left x t k n (λ vs. least acc (forEach c (listed vs)) ≡ least best (eachElement c v))
 
 -- a value that is no array
-pub pass-none : (c : Check) {x t : List ℕ} {i : ℕ} (best : ℕ) {r : Bool} → Gives isArrayValue x t i r → not r ≡ true → Gives (λ v. least best (each c v)) x t i best
+pub pass-none : (c : Check) {x t : List ℕ} {i : ℕ} (best : ℕ) {r : Bool} → Gives isArrayValue x t i r → not r ≡ true → Gives (λ v. least best (eachElement c v)) x t i best
 pass-none c best {r} g e = record { is = λ v s. least-none (each-none c v (sym (g .is v s) ∙ not-true r e)) }
 
 module _ {c : Check} {x t : List ℕ} {i best : ℕ} where
   -- where the loop begins, at an array
   pub pass-start : {n : ℕ} → Node x t i → Gives isArrayValue x t i true → n ≡ getD t (i + 2) 0 → Pass c x t i best n (i + 3) best
-  unfolding each
-  pass-start d g q = record { node = d; left = λ v s. rw q (elements-begin (λ vs. least best (forEach c vs) ≡ least best (each c v)) s (sym (g .is v s)) refl) }
+  unfolding eachElement
+  pass-start d g q = record { node = d; left = λ v s. rw q (elements-begin (λ vs. least best (forEach c vs) ≡ least best (eachElement c v)) s (sym (g .is v s)) refl) }
 
   pub pass-begin : {r : Bool} {n : ℕ} → Node x t i → Gives isArrayValue x t i r → not r ≡ false → n ≡ getD t (i + 2) 0 → Pass c x t i best n (i + 3) best
   pass-begin {r} d g e q = pass-start d (rw (not-false r e) at g) q
 
   module _ {n k acc : ℕ} (p : Pass c x t i best n k acc) where
-    here : k < n → Past x t k n (λ vs. least acc (forEach c (listed vs)) ≡ least best (each c (p .node .value)))
+    here : k < n → Past x t k n (λ vs. least acc (forEach c (listed vs)) ≡ least best (eachElement c (p .node .value)))
     here l = past (p .left (p .node .value) (p .node .stands)) l
 
     -- the node where it has come to
@@ -213,13 +213,13 @@ module _ {c : Check} {x t : List ℕ} {i best : ℕ} where
     pass-less l q = let u = here l in omega (arith, u .more, u .within)
 
     -- its end
-    pub pass-done : n ≤ k → Gives (λ v. least best (each c v)) x t i acc
+    pub pass-done : n ≤ k → Gives (λ v. least best (eachElement c v)) x t i acc
     unfolding listed forEach least
     pass-done h = record { is = λ v s. ended (p .left v s) h }
 
 -- two checks of each element
-pub each-both : {x t : List ℕ} {i : ℕ} (best : ℕ) (c d : Check) {r : ℕ} → Gives (λ v. least best (each (λ w. c w ++ d w) v)) x t i r → Gives (λ v. least best (each c v ++ each d v)) x t i r
-each-both best c d g = gives-as best (each (λ w. c w ++ d w)) (λ v. each c v ++ each d v) (least-each-++ best c d) g
+pub each-both : {x t : List ℕ} {i : ℕ} (best : ℕ) (c d : Check) {r : ℕ} → Gives (λ v. least best (eachElement (λ w. c w ++ d w) v)) x t i r → Gives (λ v. least best (eachElement c v ++ eachElement d v)) x t i r
+each-both best c d g = gives-as best (eachElement (λ w. c w ++ d w)) (λ v. eachElement c v ++ eachElement d v) (least-each-++ best c d) g
 
 -- the fault of a rule at a value of another kind, and a check d of the kind's values, which finds none in others: at such a value, and at one of the kind
 module _ {x t : List ℕ} {i : ℕ} (best rule : ℕ) {kind : Json → Bool} (d : Check) {r : ℕ} {b : Bool} (g : Gives kind x t i b) where

@@ -1,4 +1,4 @@
--- What the checks over a node table ask and tell. Assumes nothing: these are definitions.
+-- What the checks over a node table ask and tell.
 use mathlib.Core.Path.{_≡_}
 use mathlib.Core.Bool.{Bool, true, not, _||_}
 use mathlib.Core.List.{List, []}

@@ -1,4 +1,4 @@
--- Rules 12 and 13 of document 01: shapes of nested arrays and ranges of numbers. Assumes nothing: these are definitions.
+-- Rules 12 and 13 of document 01: shapes of nested arrays and ranges of numbers.
 use Prim.Native.Nat.{ℕ, zero, suc}
 use mathlib.Core.Bool.{Bool, true, false, cond, not, _&&_, _||_}
 use mathlib.Core.List.{List, [], _∷_, _++_}
@@ -11,7 +11,7 @@ use Rattle.numerals.specs.Numerals.{Decimal, isInteger, integer, pairOf, fits32
 use Rattle.json.specs.Tree.{Json, placeOf}
 use Rattle.nodes.specs.Access.{isNullValue, isNumberValue, isArrayValue, elements, numeralOf}
 use Rattle.nodes.specs.Faults.{fault}
-use Rattle.shapes.specs.Checks.{Check, unless, forEach, each, numeral}
+use Rattle.shapes.specs.Checks.{Check, unless, isSome, forEach, eachElement, numeral}
 
 -- a numeral that is an integer
 unfoldable pub isIntegerValue : Json → Bool
@@ -24,18 +24,14 @@ allIntegers [] = true
 allIntegers (v ∷ vs) = isIntegerValue v && allIntegers vs
 
 -- 12: `scale` and `translate` hold three numbers, at the array
-unfoldable pub holdsThree : Check
+unfoldable pub threeEntries : Check
 unfolding unless isArrayValue elements
-holdsThree v = unless (not (isArrayValue v) || eqb (length (elements v)) 3) 12 v
+threeEntries v = unless (not (isArrayValue v) || eqb (length (elements v)) 3) 12 v
 
 -- 13: a transform number is a pair in range, at the number
-unfoldable pub isPair : Option Decimal → Bool
-isPair option.none = false
-isPair (some d) = true
-
-unfoldable pub inPairRange : Check
-unfolding numeral isPair pairOf
-inPairRange = numeral 13 (λ raw. isPair (pairOf raw))
+unfoldable pub pairRange : Check
+unfolding numeral isSome pairOf
+pairRange = numeral 13 (λ raw. isSome (pairOf raw))
 
 -- such a number's pair, or its fault
 unfoldable pub orFault : Json → Option Decimal → Decimal ⊎ ℕ
@@ -57,8 +53,8 @@ unfolding numeral fits32 integer
 coordinate = numeral 13 (λ raw. fits32 (integer raw))
 
 unfoldable pub vertex : Check
-unfolding unless isTriple each coordinate
-vertex v = cond (isTriple v) (each coordinate v) (unless false 12 v)
+unfolding unless isTriple eachElement coordinate
+vertex v = cond (isTriple v) (eachElement coordinate v) (unless false 12 v)
 
 -- 12: arrays down to the depth, where integers stand, at the wrong element
 unfoldable pub shaped : ℕ → Check
@@ -67,10 +63,10 @@ shaped zero v = unless (isIntegerValue v) 12 v
 shaped (suc d) v = unless (isArrayValue v) 12 v ++ forEach (shaped d) (elements v)
 
 -- 13: each integer at that depth is at least 0 and below the count, at the number
-unfoldable pub near : ℕ → ℕ → Check
+unfoldable pub ranged : ℕ → ℕ → Check
 unfolding numeral isBelow integer forEach elements
-near count zero v = numeral 13 (λ raw. isBelow count (integer raw)) v
-near count (suc d) v = forEach (near count d) (elements v)
+ranged count zero v = numeral 13 (λ raw. isBelow count (integer raw)) v
+ranged count (suc d) v = forEach (ranged count d) (elements v)
 
 -- a check of two lists' elements, side by side
 unfoldable pub forBoth : (Json → Check) → List Json → List Json → List ℕ
@@ -85,7 +81,3 @@ matches zero b v = unless (isIntegerValue v || isNullValue v) 12 v
 matches (suc d) b v =
     unless (isArrayValue v && eqb (length (elements b)) (length (elements v))) 12 v
     ++ cond (isArrayValue v && eqb (length (elements b)) (length (elements v))) (forBoth (matches d) (elements b) (elements v)) []
-
-unfoldable pub isNil : List ℕ → Bool
-isNil [] = true
-isNil (f ∷ fs) = false

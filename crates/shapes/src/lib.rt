@@ -6,9 +6,9 @@ ghost use mathlib.Core.List.{_++_};
 ghost use Rattle.nodes.specs.Access.{isNullValue, isNumberValue, isArrayValue, elements};
 ghost use Rattle.nodes.specs.Faults.{least};
 ghost use Rattle.nodes.specs.Says.{Node, Sought, Gives};
-ghost use Rattle.shapes.specs.Checks.{isObject, isString, isNumber, isArray, each};
+ghost use Rattle.shapes.specs.Checks.{objectKind, stringKind, numberKind, arrayKind, eachElement};
 ghost use Rattle.shapes.specs.Checks as checks;
-ghost use Rattle.shapes.specs.Shapes.{isIntegerValue, allIntegers, holdsThree, inPairRange, isTriple};
+ghost use Rattle.shapes.specs.Shapes.{isIntegerValue, allIntegers, threeEntries, pairRange, isTriple};
 ghost use Rattle.shapes.specs.Shapes as shape;
 ghost use Rattle.shapes.specs.Says.{Nodes, GivesTwo, GivesPair, Needs, Clears, IsSmall};
 use nodes::Found;
@@ -28,28 +28,28 @@ pub fn unless(kept: bool, rule: u32, text: &[u8], table: &[u32], i: usize, best:
 // Rule 7: an object, a string, a number, an array.
 pub fn object(text: &[u8], table: &[u32], i: usize, best: u32) -> u32
     requires { ⌜ Node (now text) (now table) i ⌝ }
-    ensures { λ r. ⌜ Gives (λ v. least best (isObject v)) (now (text .entry)) (now (table .entry)) i r ⌝ }
+    ensures { λ r. ⌜ Gives (λ v. least best (objectKind v)) (now (text .entry)) (now (table .entry)) i r ⌝ }
 {
     unless(nodes::is_object(text, table, i), 7, text, table, i, best)
 }
 
 pub fn string(text: &[u8], table: &[u32], i: usize, best: u32) -> u32
     requires { ⌜ Node (now text) (now table) i ⌝ }
-    ensures { λ r. ⌜ Gives (λ v. least best (isString v)) (now (text .entry)) (now (table .entry)) i r ⌝ }
+    ensures { λ r. ⌜ Gives (λ v. least best (stringKind v)) (now (text .entry)) (now (table .entry)) i r ⌝ }
 {
     unless(nodes::is_string(text, table, i), 7, text, table, i, best)
 }
 
 fn number(text: &[u8], table: &[u32], i: usize, best: u32) -> u32
     requires { ⌜ Node (now text) (now table) i ⌝ }
-    ensures { λ r. ⌜ Gives (λ v. least best (isNumber v)) (now (text .entry)) (now (table .entry)) i r ⌝ }
+    ensures { λ r. ⌜ Gives (λ v. least best (numberKind v)) (now (text .entry)) (now (table .entry)) i r ⌝ }
 {
     unless(nodes::is_number(text, table, i), 7, text, table, i, best)
 }
 
 pub fn array(text: &[u8], table: &[u32], i: usize, best: u32) -> u32
     requires { ⌜ Node (now text) (now table) i ⌝ }
-    ensures { λ r. ⌜ Gives (λ v. least best (isArray v)) (now (text .entry)) (now (table .entry)) i r ⌝ }
+    ensures { λ r. ⌜ Gives (λ v. least best (arrayKind v)) (now (text .entry)) (now (table .entry)) i r ⌝ }
 {
     unless(nodes::is_array(text, table, i), 7, text, table, i, best)
 }
@@ -79,7 +79,7 @@ fn is_integer(text: &[u8], table: &[u32], i: usize) -> bool
 // Rule 12: `scale` and `translate` hold three numbers.
 fn three(text: &[u8], table: &[u32], i: usize, best: u32) -> u32
     requires { ⌜ Node (now text) (now table) i ⌝ }
-    ensures { λ r. ⌜ Gives (λ v. least best (holdsThree v)) (now (text .entry)) (now (table .entry)) i r ⌝ }
+    ensures { λ r. ⌜ Gives (λ v. least best (threeEntries v)) (now (text .entry)) (now (table .entry)) i r ⌝ }
 {
     if !nodes::is_array(text, table, i) {
         return best;
@@ -109,7 +109,7 @@ pub fn pair(text: &[u8], table: &[u32], i: usize) -> Paired
 // Rule 13: a transform number is a pair in range.
 fn pair_range(text: &[u8], table: &[u32], i: usize, best: u32) -> u32
     requires { ⌜ Node (now text) (now table) i ⌝ }
-    ensures { λ r. ⌜ Gives (λ v. least best (inPairRange v)) (now (text .entry)) (now (table .entry)) i r ⌝ }
+    ensures { λ r. ⌜ Gives (λ v. least best (pairRange v)) (now (text .entry)) (now (table .entry)) i r ⌝ }
 {
     if !nodes::is_number(text, table, i) {
         return best;
@@ -124,7 +124,7 @@ fn pair_range(text: &[u8], table: &[u32], i: usize, best: u32) -> u32
 // Rules 7 and 13 of each entry of `scale` or `translate`.
 fn entries(text: &[u8], table: &[u32], i: usize, best: u32) -> u32
     requires { ⌜ Node (now text) (now table) i ⌝ }
-    ensures { λ r. ⌜ Gives (λ v. least best (each isNumber v ++ each inPairRange v)) (now (text .entry)) (now (table .entry)) i r ⌝ }
+    ensures { λ r. ⌜ Gives (λ v. least best (eachElement numberKind v ++ eachElement pairRange v)) (now (text .entry)) (now (table .entry)) i r ⌝ }
 {
     if !nodes::is_array(text, table, i) {
         return best;
@@ -143,7 +143,7 @@ fn entries(text: &[u8], table: &[u32], i: usize, best: u32) -> u32
 // `scale` or `translate`: an array (7) of numbers (7), three of them (12), each a pair in range (13).
 pub fn three_pairs(text: &[u8], table: &[u32], i: usize, best: u32) -> u32
     requires { ⌜ Node (now text) (now table) i ⌝ }
-    ensures { λ r. ⌜ Gives (λ v. least best (isArray v ++ each isNumber v ++ holdsThree v ++ each inPairRange v)) (now (text .entry)) (now (table .entry)) i r ⌝ }
+    ensures { λ r. ⌜ Gives (λ v. least best (arrayKind v ++ eachElement numberKind v ++ threeEntries v ++ eachElement pairRange v)) (now (text .entry)) (now (table .entry)) i r ⌝ }
 {
     let kind = array(text, table, i, best);
     let shape = three(text, table, i, kind);
@@ -201,7 +201,7 @@ fn coordinate(text: &[u8], table: &[u32], i: usize, best: u32) -> u32
 // The coordinates of a vertex.
 fn coordinates(text: &[u8], table: &[u32], i: usize, best: u32) -> u32
     requires { ⌜ (Node (now text) (now table) i) × (Gives isArrayValue (now text) (now table) i true) ⌝ }
-    ensures { λ r. ⌜ Gives (λ v. least best (each shape.coordinate v)) (now (text .entry)) (now (table .entry)) i r ⌝ }
+    ensures { λ r. ⌜ Gives (λ v. least best (eachElement shape.coordinate v)) (now (text .entry)) (now (table .entry)) i r ⌝ }
 {
     let n = nodes::next(table, i);
     let mut least = best;
@@ -261,7 +261,7 @@ fn vertex(text: &[u8], table: &[u32], i: usize, best: u32) -> u32
 // The vertices: an array (7) of vertices.
 pub fn vertices(text: &[u8], table: &[u32], i: usize, best: u32) -> u32
     requires { ⌜ Node (now text) (now table) i ⌝ }
-    ensures { λ r. ⌜ Gives (λ v. least best (isArray v ++ each shape.vertex v)) (now (text .entry)) (now (table .entry)) i r ⌝ }
+    ensures { λ r. ⌜ Gives (λ v. least best (arrayKind v ++ eachElement shape.vertex v)) (now (text .entry)) (now (table .entry)) i r ⌝ }
 {
     if !nodes::is_array(text, table, i) {
         return array(text, table, i, best);
@@ -300,7 +300,7 @@ pub fn shaped(text: &[u8], table: &[u32], i: usize, depth: usize, best: u32) -> 
 // Rule 13: an integer is at least 0 and below the count.
 fn below(text: &[u8], table: &[u32], i: usize, count: usize, best: u32) -> u32
     requires { ⌜ Node (now text) (now table) i ⌝ }
-    ensures { λ r. ⌜ Gives (λ v. least best (shape.near count 0 v)) (now (text .entry)) (now (table .entry)) i r ⌝ }
+    ensures { λ r. ⌜ Gives (λ v. least best (shape.ranged count 0 v)) (now (text .entry)) (now (table .entry)) i r ⌝ }
 {
     if !nodes::is_number(text, table, i) {
         return best;
@@ -316,9 +316,9 @@ fn below(text: &[u8], table: &[u32], i: usize, count: usize, best: u32) -> u32
 }
 
 // Rule 13: each integer at that depth is at least 0 and below the count.
-pub fn near(text: &[u8], table: &[u32], i: usize, depth: usize, count: usize, best: u32) -> u32
+pub fn ranged(text: &[u8], table: &[u32], i: usize, depth: usize, count: usize, best: u32) -> u32
     requires { ⌜ Node (now text) (now table) i ⌝ }
-    ensures { λ r. ⌜ Gives (λ v. least best (shape.near count depth v)) (now (text .entry)) (now (table .entry)) i r ⌝ }
+    ensures { λ r. ⌜ Gives (λ v. least best (shape.ranged count depth v)) (now (text .entry)) (now (table .entry)) i r ⌝ }
 {
     if depth == 0 {
         return below(text, table, i, count, best);
@@ -330,16 +330,16 @@ pub fn near(text: &[u8], table: &[u32], i: usize, depth: usize, count: usize, be
     let mut least = best;
     let mut k = i + 3;
     while k < n {
-        least = near(text, table, k, depth - 1, count, least);
+        least = ranged(text, table, k, depth - 1, count, least);
         k = nodes::next(table, k);
     }
     least
 }
 
 // Is the value a short integer below the count? Then it breaks neither rule 12 nor rule 13.
-fn is_near(text: &[u8], table: &[u32], i: usize, count: usize) -> bool
+fn is_ranged(text: &[u8], table: &[u32], i: usize, count: usize) -> bool
     requires { ⌜ Node (now text) (now table) i ⌝ }
-    ensures { λ r. ⌜ Clears (λ v. shape.shaped 0 v ++ shape.near count 0 v) (now (text .entry)) (now (table .entry)) i r ⌝ }
+    ensures { λ r. ⌜ Clears (λ v. shape.shaped 0 v ++ shape.ranged count 0 v) (now (text .entry)) (now (table .entry)) i r ⌝ }
 {
     if !nodes::is_number(text, table, i) {
         return false;
@@ -350,9 +350,9 @@ fn is_near(text: &[u8], table: &[u32], i: usize, count: usize) -> bool
 // Rules 12 and 13 of what stands at a boundary's last level: an integer, at least 0 and below the count.
 fn leaf(text: &[u8], table: &[u32], i: usize, count: usize, best: u32) -> u32
     requires { ⌜ Node (now text) (now table) i ⌝ }
-    ensures { λ r. ⌜ Gives (λ v. least best (shape.shaped 0 v ++ shape.near count 0 v)) (now (text .entry)) (now (table .entry)) i r ⌝ }
+    ensures { λ r. ⌜ Gives (λ v. least best (shape.shaped 0 v ++ shape.ranged count 0 v)) (now (text .entry)) (now (table .entry)) i r ⌝ }
 {
-    if is_near(text, table, i, count) {
+    if is_ranged(text, table, i, count) {
         return best;
     }
     if !is_integer(text, table, i) {
@@ -365,7 +365,7 @@ fn leaf(text: &[u8], table: &[u32], i: usize, count: usize, best: u32) -> u32
 // The integers of an array are looked at in its own loop, not by a call of this function for each.
 pub fn boundary(text: &[u8], table: &[u32], i: usize, depth: usize, count: usize, best: u32) -> u32
     requires { ⌜ Node (now text) (now table) i ⌝ }
-    ensures { λ r. ⌜ Gives (λ v. least best (shape.shaped depth v ++ shape.near count depth v)) (now (text .entry)) (now (table .entry)) i r ⌝ }
+    ensures { λ r. ⌜ Gives (λ v. least best (shape.shaped depth v ++ shape.ranged count depth v)) (now (text .entry)) (now (table .entry)) i r ⌝ }
 {
     if depth == 0 {
         return leaf(text, table, i, count, best);

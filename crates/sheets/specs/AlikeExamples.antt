@@ -2,7 +2,7 @@
 use Prim.Native.Nat.{ℕ}
 use mathlib.Core.Path.{_≡_, refl}
 use Rattle.verdict.specs.Verdict.{accepted, verdict}
-use Rattle.model.specs.AlikeExamples.{bare, bare-respelled, town, town-respelled, town-alike}
+use Rattle.model.specs.AlikeExamples.{bare, bare-respelled, building, building-respelled, building-alike}
 use Rattle.sheets.specs.Laid.{laid, answer, roomAfter}
 use Rattle.sheets.specs.Examples.{lays}
 use Rattle.sheets.specs.Theorems.{alike-rooms}
@@ -16,22 +16,22 @@ unfolding lays bare-respelled
 bare-respelled-laid = refl
 
 -- a sheet for two objects
-town-laid : lays town 65536 ≡ laid 247 2
-unfolding lays town
-town-laid = refl
+building-laid : lays building 65536 ≡ laid 247 2
+unfolding lays building
+building-laid = refl
 
-town-respelled-laid : lays town-respelled 65536 ≡ laid 247 2
-unfolding lays town-respelled
-town-respelled-laid = refl
+building-respelled-laid : lays building-respelled 65536 ≡ laid 247 2
+unfolding lays building-respelled
+building-respelled-laid = refl
 
-town-accepted : verdict town ≡ accepted 2
-unfolding lays town
-town-accepted = refl
+building-accepted : verdict building ≡ accepted 2
+unfolding lays building
+building-accepted = refl
 
-town-respelled-accepted : verdict town-respelled ≡ accepted 2
-unfolding lays town-respelled
-town-respelled-accepted = refl
+building-respelled-accepted : verdict building-respelled ≡ accepted 2
+unfolding lays building-respelled
+building-respelled-accepted = refl
 
 -- one answer and one sheet, whatever the room
-pub town-rooms : (r : ℕ) → (answer town r ≡ answer town-respelled r) × (roomAfter town r ≡ roomAfter town-respelled r)
-town-rooms r = alike-rooms town town-respelled 2 2 r town-accepted town-respelled-accepted town-alike
+pub building-rooms : (r : ℕ) → (answer building r ≡ answer building-respelled r) × (roomAfter building r ≡ roomAfter building-respelled r)
+building-rooms r = alike-rooms building building-respelled 2 2 r building-accepted building-respelled-accepted building-alike

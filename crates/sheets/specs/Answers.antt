@@ -1,4 +1,4 @@
--- What an answer of lay tells of its text and room. Assumes nothing.
+-- What an answer of lay tells of its text and room.
 use Prim.Native.Nat.{ℕ, _-_, _≤_, _<_}
 use native.Mathlib.Omega.{arith}
 use mathlib.Core.Path.{_≡_, refl, sym, ap, _∙_, subst}
@@ -12,7 +12,7 @@ use Rattle.utf8.specs.Utf8.{wholeLength}
 use Rattle.utf8.specs.Laws.{clash}
 use Rattle.json.specs.Tree.{Json}
 use Rattle.json.specs.Machine.{Outcome, reads, bad, tooDeep, read, treeIn, treeOf}
-use Rattle.nodes.specs.Faults.{fault, ruleOf, placeIn, least, none}
+use Rattle.nodes.specs.Faults.{fault, ruleOf, placeIn, least, noFault}
 use Rattle.everywhere.specs.Everywhere.{rule5, rule6}
 use Rattle.fields.specs.Fields.{objectsOf}
 use Rattle.schema.specs.Schema.{cityJson}
@@ -145,16 +145,16 @@ either-low false u v p q = q
 -- a tree's verdict
 given-low : (n f : ℕ) → Low (given n f)
 unfolding given Low ruleOf
-given-low n f = by (ltb f none) refl
+given-low n f = by (ltb f noFault) refl
   where
-    by : (b : Bool) → ltb f none ≡ b → Low (cond b (judge.refused (ruleOf f) (placeIn f)) (accepted n))
-    by true e = omega (arith, ltb-true f none e)
+    by : (b : Bool) → ltb f noFault ≡ b → Low (cond b (judge.refused (ruleOf f) (placeIn f)) (accepted n))
+    by true e = omega (arith, ltb-true f noFault e)
     by false e = tt
 
 -- a parsed text's
 parsed-low : (o : Outcome) → Low (parsed o)
 unfolding parsed judged Low
-parsed-low (reads v) = given-low (length (objectsOf v)) (least none (faults v))
+parsed-low (reads v) = given-low (length (objectsOf v)) (least noFault (faults v))
 parsed-low (bad n) = omega arith
 parsed-low (tooDeep n) = omega arith
 

@@ -12,7 +12,7 @@ use lib.ListN.{getD}
 use lib.Dec.{eqb}
 use lib.Seq.{slice}
 use Rattle.utf8.specs.Utf8.{Whole, same}
-use Rattle.utf8.specs.Utf8.Whole.{none}
+use Rattle.utf8.specs.Utf8.Whole.{nil}
 use Rattle.utf8.specs.Laws.{clash, nil-left, nil-right}
 use Rattle.utf8.specs.Splits.{whole-text, whole-between}
 use Rattle.strings.specs.Strings.{decode, unpairedFrom}
@@ -142,7 +142,7 @@ all-read P Q read one (a ∷ l) h = (one a (h .0), all-read P Q read one l (h .1
 
 listed-texts : (vs : Items) → All WholeName (stringsIn vs) → All Texts (listed vs)
 unfolding strings listed
-listed-texts tree.none h = tt
+listed-texts tree.noItems h = tt
 listed-texts (v ▸ vs) h = let (g, k) = all-parts WholeName (strings v) (stringsIn vs) h in (g, listed-texts vs k)
 
 element-texts : (v : Json) → Texts v → All Texts (elements v)
@@ -171,12 +171,12 @@ member-texts (tree.obj p e ms) h = pairs-texts ms h
 -- a string's text; that of another value is empty
 text-whole : (v : Json) → Texts v → Whole (textOf v)
 unfolding strings textOf
-text-whole (tree.null p e) h = none
-text-whole (tree.bool p e b) h = none
-text-whole (tree.num p e raw) h = none
+text-whole (tree.null p e) h = nil
+text-whole (tree.bool p e b) h = nil
+text-whole (tree.num p e raw) h = nil
 text-whole (tree.str p e raw) h = h .0
-text-whole (tree.arr p e vs) h = none
-text-whole (tree.obj p e ms) h = none
+text-whole (tree.arr p e vs) h = nil
+text-whole (tree.obj p e ms) h = nil
 
 -- a member that is found
 abbrev Found : Option Json → Type 0

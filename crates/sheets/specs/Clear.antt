@@ -1,4 +1,4 @@
--- What it tells of a value that a check finds no fault in it. Assumes nothing.
+-- What it tells of a value that a check finds no fault in it.
 use Prim.Native.Nat.{ℕ}
 use Prim.Native.String.{String}
 use mathlib.Core.Path.{_≡_, refl, sym, subst, _∙_}
@@ -10,7 +10,7 @@ use lib.ListN.{length, length-map}
 pub use Rattle.utf8.specs.Laws.{nil-left, nil-right}
 use Rattle.json.specs.Tree.{Json, null}
 use Rattle.nodes.specs.Access.{isNumberValue, isStringValue, isObjectValue, elements, members, textOf, numeralOf, find}
-use Rattle.shapes.specs.Checks.{Check, unless, all, on, at, forEach, each, isObject, isString, isArray, isSome, needs, text, numeral}
+use Rattle.shapes.specs.Checks.{Check, unless, all, on, at, forEach, eachElement, objectKind, stringKind, arrayKind, isSome, needs, text, numeral}
 use Rattle.fields.specs.Fields.{textIn, typeText, countIn, membersIn, objectsOf}
 use Rattle.links.specs.Links.{elementsIn, listedIn}
 use Rattle.model.specs.Code.{All}
@@ -47,12 +47,12 @@ first-of true b p q = refl
 first-of false b p q = cc
 
 -- rule 7 of a string
-pub is-string : (v : Json) → isString v ≡ [] → isStringValue v ≡ true
-unfolding isString
+pub is-string : (v : Json) → stringKind v ≡ [] → isStringValue v ≡ true
+unfolding stringKind
 is-string v e = kept (isStringValue v) 7 v e
 
 -- a rule about a string's text
-pub text-ok : (r : ℕ) (ok : List ℕ → Bool) (v : Json) → isString v ≡ [] → text r ok v ≡ [] → ok (textOf v) ≡ true
+pub text-ok : (r : ℕ) (ok : List ℕ → Bool) (v : Json) → stringKind v ≡ [] → text r ok v ≡ [] → ok (textOf v) ≡ true
 unfolding text
 text-ok r ok v s e = implied (isStringValue v) (ok (textOf v)) (is-string v s) (kept _ r v e)
 
@@ -82,8 +82,8 @@ Has [] v = Unit {0}
 Has (n ∷ ns) v = (isSome (find n v) ≡ true) × Has ns v
 
 -- rules 7 and 8
-pub has : (ns : List String) (v : Json) → isObject v ≡ [] → needs ns v ≡ [] → Has ns v
-unfolding needs isObject
+pub has : (ns : List String) (v : Json) → objectKind v ≡ [] → needs ns v ≡ [] → Has ns v
+unfolding needs objectKind
 has [] v o e = tt
 has (n ∷ ns) v o e = (
   implied (isObjectValue v) (isSome (find n v)) (kept (isObjectValue v) 7 v o) (kept _ 8 v (nil-left _ (needs ns v) e)),
@@ -142,10 +142,10 @@ each-good c read P one vs e = both-good c c read P (λ v p q. one v p) vs e e
 
 -- so does each element of a member that is an array, if it is there
 pub list-good : {A : Type 0} (c : Check) (read : Json → A) (P : A → Type 0) → ((v : Json) → c v ≡ [] → P (read v))
-    → (n : String) (v : Json) → at n (all (isArray ∷ each c ∷ [])) v ≡ [] → All P (map read (elements (get n v)))
-unfolding each elements
+    → (n : String) (v : Json) → at n (all (arrayKind ∷ eachElement c ∷ [])) v ≡ [] → All P (map read (elements (get n v)))
+unfolding eachElement elements
 list-good c read P one n v e =
-    at-null (all (isArray ∷ each c ∷ [])) (λ w. All P (map read (elements w))) (λ w d. each-good c read P one (elements w) (clear (isArray ∷ each c ∷ []) w d .1 .0)) tt n v e
+    at-null (all (arrayKind ∷ eachElement c ∷ [])) (λ w. All P (map read (elements w))) (λ w d. each-good c read P one (elements w) (clear (arrayKind ∷ eachElement c ∷ []) w d .1 .0)) tt n v e
 
 -- ---- what the rules look up is what is read
 

@@ -1,4 +1,4 @@
--- The sheets of two sample texts of document 01, and rooms that are cleared, by computation. Assumes nothing.
+-- The sheets of two sample texts of document 01, and rooms that are cleared, by computation.
 use Prim.Native.Nat.{ℕ}
 use mathlib.Core.Path.{_≡_, refl}
 use mathlib.Core.List.{List, [], _∷_, _++_}
@@ -8,8 +8,9 @@ use Rattle.json.specs.Machine.{step, wantStep, gotStep, nextStep, nameStep, man
 use Rattle.numerals.specs.Numerals.{decimal, wholeOf}
 use Rattle.words.specs.Words.{codeOf, objectWords, geometryWords, surfaceWords, depth, valuesDepth}
 use Rattle.nodes.specs.Access.{elements, members, nameOf, textOf, find}
-use Rattle.model.specs.Code.{le, signed, each}
-use Rattle.model.specs.Model.{layRec, layThree, layDecimal, minorCode, lodCode, layNest, layValue, layValues, laySurface, surfaceRecs, semanticsRecs, geometryRecs, objectRecs, modelRecs, layModel, numberOf, idsOf, numberObject, numberModel}
+use Rattle.utf8.specs.Bytes.{le}
+use Rattle.model.specs.Code.{signed, concatMap}
+use Rattle.model.specs.Model.{layRec, layThree, layDecimal, minorCode, lodCode, layNest, layValue, layValues, laySurface, surfaceRecs, semanticsRecs, geometryRecs, objectRecs, modelRecs, layModel, objectNumber, idsOf, numberObject, numberModel}
 use Rattle.model.specs.Read.{orNull, get, zeroIfNone, decimalOf, integerOf, natural, indexOf, valueOf, threeOf, nestOf, minorOf, lodOf, surfaceNamed, surfaceOf, semanticsOf, geometryOf, objectOf}
 use Rattle.model.specs.Read as read
 use Rattle.verdict.specs.Verdict.{accepted, verdict}
@@ -18,7 +19,7 @@ use Rattle.sheets.specs.Laid.{Answer, laid, refused, answer, modelOfText
 
 -- opening this opens all that an answer and a sheet need
 unfoldable pub lays : List ℕ → ℕ → Answer
-unfolding answer roomAfter ascii step wantStep gotStep nextStep nameStep mantStep noughtStep isBlank isDigit isHex isEscape _◂_ with decimal codeOf objectWords geometryWords surfaceWords depth valuesDepth elements members nameOf textOf find le signed each layRec layThree layDecimal minorCode lodCode layNest layValue layValues laySurface surfaceRecs semanticsRecs geometryRecs objectRecs modelRecs layModel numberOf idsOf numberObject numberModel orNull get read.numberOf zeroIfNone decimalOf wholeOf integerOf natural indexOf valueOf threeOf nestOf minorOf lodOf surfaceNamed surfaceOf semanticsOf geometryOf objectOf
+unfolding answer roomAfter ascii step wantStep gotStep nextStep nameStep mantStep noughtStep isBlank isDigit isHex isEscape _◂_ with decimal codeOf objectWords geometryWords surfaceWords depth valuesDepth elements members nameOf textOf find le signed concatMap layRec layThree layDecimal minorCode lodCode layNest layValue layValues laySurface surfaceRecs semanticsRecs geometryRecs objectRecs modelRecs layModel objectNumber idsOf numberObject numberModel orNull get read.maybeDecimal zeroIfNone decimalOf wholeOf integerOf natural indexOf valueOf threeOf nestOf minorOf lodOf surfaceNamed surfaceOf semanticsOf geometryOf objectOf
 lays text room = answer text room
 
 -- CityJSON's minimal object

@@ -1,4 +1,4 @@
--- A tree with no fault reads as a good model: what rules 7, 8, 10, 11, 12, 13 and 15 of document 01 give. Assumes nothing.
+-- A tree with no fault reads as a good model: what rules 7, 8, 10, 11, 12, 13 and 15 of document 01 give.
 use Prim.Native.Nat.{ℕ, zero, suc, _-_, _≤_, _<_}
 use Prim.Native.String.{String}
 use native.Mathlib.Omega.{arith}
@@ -20,14 +20,14 @@ use Rattle.nodes.specs.Access.{isStringValue, elements, members, Member, nameOf
 use Rattle.everywhere.specs.Everywhere.{among, rule5, rule6}
 use Rattle.nodes.specs.Faults.{fault}
 use Rattle.fields.specs.Fields.{typeText, countIn}
-use Rattle.shapes.specs.Checks.{Check, all, on, at, forEach, values, eachMember, isObject, isString, isArray, isSome, needs, text}
-use Rattle.shapes.specs.Shapes.{vertex, shaped, near, matches, isNil}
-use Rattle.schema.specs.Schema.{isObjectType, isGeometryType, isSurfaceType, word, objectType, geometryType, lod, surfaceType, boundary, boundaries, surface, surfaces, overBoundary, semantics, needsLod, geometry, geometries, links, cityObject, notTooMany, cityObjects, threePairs, transform, vertices, cityJson}
+use Rattle.shapes.specs.Checks.{Check, all, on, at, forEach, values, eachMember, objectKind, stringKind, arrayKind, isSome, needs, text, isEmpty}
+use Rattle.shapes.specs.Shapes.{vertex, shaped, ranged, matches}
+use Rattle.schema.specs.Schema.{isObjectType, isGeometryType, isSurfaceType, word, objectType, geometryType, lod, surfaceType, boundary, boundaries, surface, surfaces, overBoundary, semantics, needsLod, geometry, geometries, links, cityObject, objectLimit, cityObjects, threePairs, transform, vertices, cityJson}
 use Rattle.schema.specs.Schema as schema
-use Rattle.links.specs.Links.{listedIn, idsAmong, link, linksFrom, hasParent, linksOf, linksOfEach, linkFaults}
+use Rattle.links.specs.Links.{listedIn, idsAmong, link, linksFrom, parentLink, linksOf, linksOfEach, linkFaults}
 use Rattle.verdict.specs.Verdict.{faults}
 use Rattle.model.specs.Code.{All}
-use Rattle.model.specs.Model.{added, numberOf, idsOf}
+use Rattle.model.specs.Model.{added, objectNumber, idsOf}
 use Rattle.model.specs.Model as model
 use Rattle.model.specs.Good.{GoodLod, GoodSurface, GoodVertex, GoodSemantics, GoodGeometry, Known, GoodObject, GoodModel, Both}
 use Rattle.model.specs.Read.{orNull, get, integerOf, indexOf, threeOf, nestOf, minorOf, lodOf, surfaceNamed, surfaceOf, semanticsOf, geometryOf, objectOf, modelOf}
@@ -49,9 +49,9 @@ word-good words t e =
 
 -- a type that is one of the words or another that is refused
 type-good : (words : List String) (other : List ℕ → Bool) (cs : List Check) (v : Json)
-    → all (isString ∷ text 10 (λ t. isOne words t || other t) ∷ text 11 (λ t. not (other t)) ∷ cs) v ≡ [] → Coded words (textOf v)
+    → all (stringKind ∷ text 10 (λ t. isOne words t || other t) ∷ text 11 (λ t. not (other t)) ∷ cs) v ≡ [] → Coded words (textOf v)
 type-good words other cs v e =
-    let (s, (a, (b, r))) = clear (isString ∷ text 10 (λ t. isOne words t || other t) ∷ text 11 (λ t. not (other t)) ∷ cs) v e in
+    let (s, (a, (b, r))) = clear (stringKind ∷ text 10 (λ t. isOne words t || other t) ∷ text 11 (λ t. not (other t)) ∷ cs) v e in
     word-good words (textOf v) (first-of _ _ (text-ok 10 (λ t. isOne words t || other t) v s a) (not-true _ (text-ok 11 (λ t. not (other t)) v s b)))
 
 -- a city object's type
@@ -83,7 +83,7 @@ lod-text (a ∷ b ∷ c ∷ d ∷ t) e = absurd (never e refl)
 -- a lod
 pub lod-clear : (v : Json) → lod v ≡ [] → isLod (textOf v) ≡ true
 unfolding lod
-lod-clear v e = let (s, (t, r)) = clear (isString ∷ text 10 isLod ∷ []) v e in text-ok 10 isLod v s t
+lod-clear v e = let (s, (t, r)) = clear (stringKind ∷ text 10 isLod ∷ []) v e in text-ok 10 isLod v s t
 
 lod-good : (v : Json) → lod v ≡ [] → GoodLod (lodOf (textOf v))
 lod-good v e = lod-text (textOf v) (lod-clear v e)
@@ -106,8 +106,8 @@ surface-text t e = of (isAdded t) refl
 surface-good : (v : Json) → surface v ≡ [] → GoodSurface (surfaceOf v)
 unfolding surface surfaceType surfaceOf
 surface-good v e =
-    let (o, (n, (t, r))) = clear (isObject ∷ needs ("type" ∷ []) ∷ at "type" surfaceType ∷ []) v e in
-    let (s, (w, q)) = clear (isString ∷ text 10 isSurfaceType ∷ []) (get "type" v) (at-some "type" surfaceType v (has ("type" ∷ []) v o n .0) t) in
+    let (o, (n, (t, r))) = clear (objectKind ∷ needs ("type" ∷ []) ∷ at "type" surfaceType ∷ []) v e in
+    let (s, (w, q)) = clear (stringKind ∷ text 10 isSurfaceType ∷ []) (get "type" v) (at-some "type" surfaceType v (has ("type" ∷ []) v o n .0) t) in
     surface-text (textOf (get "type" v)) (text-ok 10 isSurfaceType (get "type" v) s w)
 
 -- the values of a geometry have no more levels than its boundary
@@ -124,9 +124,9 @@ unfolding valuesDepth depth
 values-depth c = getD-le (0 ∷ 1 ∷ 1 ∷ 1 ∷ 1 ∷ 2 ∷ 3 ∷ 3 ∷ []) (0 ∷ 1 ∷ 2 ∷ 3 ∷ 3 ∷ 4 ∷ 5 ∷ 5 ∷ []) (omega arith, (omega arith, (omega arith, (omega arith, (omega arith, (omega arith, (omega arith, (omega arith, tt)))))))) c
 
 -- the empty list
-is-nil : (l : List ℕ) → l ≡ [] → isNil l ≡ true
-unfolding isNil
-is-nil l e = ap isNil e
+is-nil : (l : List ℕ) → l ≡ [] → isEmpty l ≡ true
+unfolding isEmpty
+is-nil l e = ap isEmpty e
 
 -- a geometry of a type that has a code
 module _ (c : ℕ) (h : 1 ≤ c) where
@@ -135,28 +135,28 @@ module _ (c : ℕ) (h : 1 ≤ c) where
   coded = ne-eqb c 0 (λ z. omega arith)
 
   -- its boundary
-  pub boundary-clear : (n : ℕ) (b : Json) → boundaries n c b ≡ [] → (shaped (depth c) b ≡ []) × (near n (depth c) b ≡ [])
+  pub boundary-clear : (n : ℕ) (b : Json) → boundaries n c b ≡ [] → (shaped (depth c) b ≡ []) × (ranged n (depth c) b ≡ [])
   unfolding boundaries boundary
   boundary-clear n b e =
-      let (a, (d, r)) = clear (isArray ∷ boundary n c ∷ []) b e in
-      let q = cond-right (eqb c 0) [] (shaped (depth c) b ++ near n (depth c) b) coded d in
+      let (a, (d, r)) = clear (arrayKind ∷ boundary n c ∷ []) b e in
+      let q = cond-right (eqb c 0) [] (shaped (depth c) b ++ ranged n (depth c) b) coded d in
       (nil-left _ _ q, nil-right (shaped (depth c) b) _ q)
 
   -- its values, over a boundary that is well shaped
-  pub values-clear : (n : ℕ) (b v : Json) → shaped (depth c) b ≡ [] → schema.values n c (some b) v ≡ [] → (matches (valuesDepth c) b v ≡ []) × (near n (valuesDepth c) v ≡ [])
+  pub values-clear : (n : ℕ) (b v : Json) → shaped (depth c) b ≡ [] → schema.values n c (some b) v ≡ [] → (matches (valuesDepth c) b v ≡ []) × (ranged n (valuesDepth c) v ≡ [])
   unfolding schema.values overBoundary
   values-clear n b v s e =
-      let (a, (d, r)) = clear (isArray ∷ overBoundary n c (some b) ∷ []) v e in
-      let l = cond (isNil (shaped (depth c) b)) (matches (valuesDepth c) b v) [] in
-      let q = cond-right (eqb c 0) [] (l ++ near n (valuesDepth c) v) coded d in
-      (cond-left (isNil (shaped (depth c) b)) _ [] (is-nil _ s) (nil-left l _ q), nil-right l _ q)
+      let (a, (d, r)) = clear (arrayKind ∷ overBoundary n c (some b) ∷ []) v e in
+      let l = cond (isEmpty (shaped (depth c) b)) (matches (valuesDepth c) b v) [] in
+      let q = cond-right (eqb c 0) [] (l ++ ranged n (valuesDepth c) v) coded d in
+      (cond-left (isEmpty (shaped (depth c) b)) _ [] (is-nil _ s) (nil-left l _ q), nil-right l _ q)
 
   -- its semantics, if it has them
   semantics-good : (b : Json) → shaped (depth c) b ≡ [] → (v : Json) → semantics c (some b) v ≡ [] → GoodSemantics c (nestOf indexOf (depth c) b) (some (semanticsOf c v))
   unfolding semantics surfaces semanticsOf
   semantics-good b s v e =
       let n = countIn (find "surfaces" v) in
-      let (o, (d, (f, (x, r)))) = clear (isObject ∷ needs ("surfaces" ∷ "values" ∷ []) ∷ at "surfaces" surfaces ∷ at "values" (schema.values n c (some b)) ∷ []) v e in
+      let (o, (d, (f, (x, r)))) = clear (objectKind ∷ needs ("surfaces" ∷ "values" ∷ []) ∷ at "surfaces" surfaces ∷ at "values" (schema.values n c (some b)) ∷ []) v e in
       let (m, k) = values-clear n b (get "values" v) s (at-some "values" (schema.values n c (some b)) v (has ("surfaces" ∷ "values" ∷ []) v o d .1 .0) x) in
       let (p, q) = values-good n (depth c) (valuesDepth c) b (get "values" v) (values-depth c) m k in
       (list-good surface surfaceOf GoodSurface surface-good "surfaces" v f, p, rw (← (counted surfaceOf "surfaces" v)) q)
@@ -170,7 +170,7 @@ module _ (c : ℕ) (h : 1 ≤ c) where
 -- the checks of a geometry, by the code of its type and its boundary
 abbrev pub geometryChecks : ℕ → ℕ → ℕ → Option Json → List Check
 geometryChecks n object c b =
-    isObject ∷ needs ("type" ∷ "boundaries" ∷ []) ∷ needsLod
+    objectKind ∷ needs ("type" ∷ "boundaries" ∷ []) ∷ needsLod
     ∷ at "type" (geometryType object c) ∷ at "lod" lod ∷ at "boundaries" (boundaries n c) ∷ at "semantics" (semantics c b) ∷ []
 
 -- none of them finds a fault
@@ -206,7 +206,7 @@ known-if false false v o k n f g e = omega (arith, g e)
 
 -- such an ID is known
 known : (t : List ℕ) (ms : List Member) → isSome (firstNamed t ms) ≡ true → Known (idsOf (map objectOf ms)) t
-unfolding firstNamed isSome numberOf idsOf objectOf
+unfolding firstNamed isSome objectNumber idsOf objectOf
 known t [] e = absurd (never e refl)
 known t (m ∷ ms) e = known-if (same t (nameOf m)) (same (nameOf m) t) (m .1) (firstNamed t ms) _ _ (λ q. rw (same-equal t (nameOf m) q) (same-refl (nameOf m))) (known t ms) e
 
@@ -229,14 +229,14 @@ listed-known : (objects : List Member) (back : String) (id : List ℕ) (excused 
     → at n links v ≡ [] → linksFrom objects back id excused [] (listedIn n v) ≡ [] → All (Known (idsOf (map objectOf objects))) (map textOf (elements (get n v)))
 unfolding links
 listed-known objects back id excused n v e l =
-    links-known objects back id excused [] (elements (get n v)) (list-good isString isStringValue (λ b. b ≡ true) is-string n v e) (subst (λ ss. linksFrom objects back id excused [] ss ≡ []) (listed-elements n v) l)
+    links-known objects back id excused [] (elements (get n v)) (list-good stringKind isStringValue (λ b. b ≡ true) is-string n v e) (subst (λ ss. linksFrom objects back id excused [] ss ≡ []) (listed-elements n v) l)
 
 -- ---- city objects
 
 -- the checks of a city object
 abbrev pub objectChecks : ℕ → Json → List Check
 objectChecks n v =
-    isObject ∷ needs ("type" ∷ []) ∷ at "type" objectType ∷ at "attributes" isObject ∷ at "children" links ∷ at "parents" links
+    objectKind ∷ needs ("type" ∷ []) ∷ at "type" objectType ∷ at "attributes" objectKind ∷ at "children" links ∷ at "parents" links
     ∷ at "geometry" (geometries n (codeOf objectWords (typeText v))) ∷ []
 
 -- a city object
@@ -248,7 +248,7 @@ object-good n objects m e l =
     let (o, (d, (t, (a, (k, (p, (g, r))))))) = clear (objectChecks n v) v e in
     let x = linksFrom objects "parents" (nameOf m) (is "CityObjectGroup" (typeText v)) [] (listedIn "children" v) in
     let y = linksFrom objects "children" (nameOf m) false [] (listedIn "parents" v) in
-    let f = nil-left (x ++ y) (hasParent v) l in
+    let f = nil-left (x ++ y) (parentLink v) l in
     record {
       code = object-type-good (get "type" v) (at-some "type" objectType v (has ("type" ∷ []) v o d .0) t);
       children = listed-known objects "parents" (nameOf m) (is "CityObjectGroup" (typeText v)) "children" v k (nil-left x y f);
@@ -273,7 +273,7 @@ GoodTransform v = GoodPairs (get "scale" v) × GoodPairs (get "translate" v)
 transform-good : (v : Json) → transform v ≡ [] → GoodTransform v
 unfolding transform
 transform-good v e =
-    let (o, (n, (s, (t, r)))) = clear (isObject ∷ needs ("scale" ∷ "translate" ∷ []) ∷ at "scale" threePairs ∷ at "translate" threePairs ∷ []) v e in
+    let (o, (n, (s, (t, r)))) = clear (objectKind ∷ needs ("scale" ∷ "translate" ∷ []) ∷ at "scale" threePairs ∷ at "translate" threePairs ∷ []) v e in
     (at-null threePairs GoodPairs pairs-good pairs-null "scale" v s, at-null threePairs GoodPairs pairs-good pairs-null "translate" v t)
 
 -- also where there is none
@@ -284,13 +284,13 @@ transform-null = (pairs-null, pairs-null)
 -- the checks of the root, with so many vertices
 abbrev pub rootChecks : ℕ → List Check
 rootChecks n =
-    isObject ∷ needs ("type" ∷ "version" ∷ "transform" ∷ "CityObjects" ∷ "vertices" ∷ []) ∷ at "type" (word "CityJSON") ∷ at "version" (word "2.0")
+    objectKind ∷ needs ("type" ∷ "version" ∷ "transform" ∷ "CityObjects" ∷ "vertices" ∷ []) ∷ at "type" (word "CityJSON") ∷ at "version" (word "2.0")
     ∷ at "transform" transform ∷ at "CityObjects" (cityObjects n) ∷ at "vertices" vertices ∷ []
 
 -- each object is one in which no check finds a fault
 pub objects-clear : (n : ℕ) (v : Json) → cityObjects n v ≡ [] → forEach (cityObject n) (values (members v)) ≡ []
 unfolding cityObjects eachMember
-objects-clear n v e = clear (isObject ∷ notTooMany ∷ eachMember (cityObject n) ∷ []) v e .1 .1 .0
+objects-clear n v e = clear (objectKind ∷ objectLimit ∷ eachMember (cityObject n) ∷ []) v e .1 .1 .0
 
 -- none of them finds a fault
 root-clear : (v : Json) → cityJson v ≡ [] → Clear (rootChecks (length (map (threeOf integerOf) (elements (get "vertices" v))))) v

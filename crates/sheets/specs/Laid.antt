@@ -1,4 +1,4 @@
--- What lay answers for a text and a lent sheet, and what the sheet then holds (document 01, "Verdict and place" and "Town and sheet"). Assumes nothing: these are definitions.
+-- What lay answers for a text and a lent sheet, and what the sheet then holds (document 01, "Verdict and place" and "Town and sheet").
 use Prim.Native.Nat.{ℕ, _-_}
 use mathlib.Core.Bool.{cond}
 use mathlib.Core.List.{List, _++_}

@@ -1,4 +1,4 @@
--- Numbers, boundaries and values in which rules 12 and 13 find no fault read as numbers in range and as nests of one shape. Assumes nothing.
+-- Numbers, boundaries and values in which rules 12 and 13 find no fault read as numbers in range and as nests of one shape.
 use Prim.Native.Nat.{ℕ, zero, suc, _^_, _≤_, _<_}
 use native.Mathlib.Omega.{arith}
 use mathlib.Core.Path.{_≡_, refl, sym, subst}
@@ -16,19 +16,19 @@ use Rattle.numerals.specs.Numerals.{Decimal, decimal, inRange, pairOf, isIntege
 use Rattle.numerals.specs.Laws.{whole}
 use Rattle.json.specs.Tree.{Json, null, bool, num, str, arr, obj}
 use Rattle.nodes.specs.Access.{isNullValue, isNumberValue, isArrayValue, elements, numeralOf}
-use Rattle.shapes.specs.Checks.{unless, forEach, each, isNumber, isArray}
-use Rattle.shapes.specs.Shapes.{isIntegerValue, allIntegers, holdsThree, isPair, inPairRange, isTriple, coordinate, vertex, shaped, near, forBoth, matches}
+use Rattle.shapes.specs.Checks.{unless, forEach, eachElement, numberKind, arrayKind, isSome}
+use Rattle.shapes.specs.Shapes.{isIntegerValue, allIntegers, threeEntries, pairRange, isTriple, coordinate, vertex, shaped, ranged, forBoth, matches}
 use Rattle.schema.specs.Schema.{threePairs}
 use Rattle.model.specs.Code.{All}
 use Rattle.model.specs.Good.{AllThree, Leaves, GoodDecimal, GoodVertex, GoodValue, Both, Shaped}
-use Rattle.model.specs.Read.{numberOf, zeroIfNone, decimalOf, integerOf, natural, indexOf, valueOf, threeOf, nestOf}
+use Rattle.model.specs.Read.{maybeDecimal, zeroIfNone, decimalOf, integerOf, natural, indexOf, valueOf, threeOf, nestOf}
 use Rattle.sheets.specs.Clear.{nil-left, nil-right, cond-left, kept, numeral-ok, clear, all-both, all-map, each-clear, both-good, each-good}
 
 -- ---- integers
 
 -- what the rules read of an integer is what the model reads
 pub integer-read : (v : Json) → isIntegerValue v ≡ true → integerOf v ≡ integer (numeralOf v)
-unfolding isIntegerValue integerOf decimalOf numberOf zeroIfNone
+unfolding isIntegerValue integerOf decimalOf maybeDecimal zeroIfNone
 integer-read (null p e) h = cc
 integer-read (bool p e b) h = cc
 integer-read (num p e raw) h = whole raw h
@@ -43,27 +43,27 @@ below n (pos k) h = ltb-true k n h
 below n (negsuc k) h = absurd (never h refl)
 
 -- the check of rule 13 at an integer
-pub near-below : (n : ℕ) (v : Json) → isIntegerValue v ≡ true → near n zero v ≡ [] → isBelow n (integer (numeralOf v)) ≡ true
-unfolding near isIntegerValue
-near-below n v h e = numeral-ok 13 (λ raw. isBelow n (integer raw)) v (both-left (isNumberValue v) _ h) e
+pub ranged-below : (n : ℕ) (v : Json) → isIntegerValue v ≡ true → ranged n zero v ≡ [] → isBelow n (integer (numeralOf v)) ≡ true
+unfolding ranged isIntegerValue
+ranged-below n v h e = numeral-ok 13 (λ raw. isBelow n (integer raw)) v (both-left (isNumberValue v) _ h) e
 
 -- so the index that is read is in range
-index-good : (n : ℕ) (v : Json) → isIntegerValue v ≡ true → near n zero v ≡ [] → indexOf v < n
+index-good : (n : ℕ) (v : Json) → isIntegerValue v ≡ true → ranged n zero v ≡ [] → indexOf v < n
 unfolding indexOf
-index-good n v h e = subst (λ z. natural z < n) (sym (integer-read v h)) (below n (integer (numeralOf v)) (near-below n v h e))
+index-good n v h e = subst (λ z. natural z < n) (sym (integer-read v h)) (below n (integer (numeralOf v)) (ranged-below n v h e))
 
 -- ---- boundaries and values
 
 -- a boundary of d levels: each index is below n
-pub boundary-good : (n d : ℕ) (v : Json) → shaped d v ≡ [] → near n d v ≡ [] → Leaves (λ i. i < n) d (nestOf indexOf d v)
-unfolding shaped near nestOf
+pub boundary-good : (n d : ℕ) (v : Json) → shaped d v ≡ [] → ranged n d v ≡ [] → Leaves (λ i. i < n) d (nestOf indexOf d v)
+unfolding shaped ranged nestOf
 boundary-good n zero v s e = index-good n v (kept (isIntegerValue v) 12 v s) e
 boundary-good n (suc d) v s e =
-    both-good (shaped d) (near n d) (nestOf indexOf d) (Leaves (λ i. i < n) d) (boundary-good n d) (elements v) (nil-right (unless (isArrayValue v) 12 v) _ s) e
+    both-good (shaped d) (ranged n d) (nestOf indexOf d) (Leaves (λ i. i < n) d) (boundary-good n d) (elements v) (nil-right (unless (isArrayValue v) 12 v) _ s) e
 
 -- a value is null or below n
-value-good : (n : ℕ) (v : Json) → (isIntegerValue v || isNullValue v) ≡ true → near n zero v ≡ [] → GoodValue n (valueOf v)
-unfolding isIntegerValue isNullValue valueOf numberOf indexOf integerOf decimalOf zeroIfNone
+value-good : (n : ℕ) (v : Json) → (isIntegerValue v || isNullValue v) ≡ true → ranged n zero v ≡ [] → GoodValue n (valueOf v)
+unfolding isIntegerValue isNullValue valueOf maybeDecimal indexOf integerOf decimalOf zeroIfNone
 value-good n (null p e) h q = tt
 value-good n (bool p e b) h q = tt
 value-good n (num p e raw) h q = index-good n (num p e raw) (of (isInteger raw) h) q
@@ -80,15 +80,15 @@ abbrev GoodValues : ℕ → ℕ → ℕ → Json → Json → Type 0
 GoodValues n d v b x = Shaped d v (nestOf indexOf d b) (nestOf valueOf v x) × Leaves (GoodValue n) v (nestOf valueOf v x)
 
 -- two lists of one length, by what holds of one level less
-levels-good : (n d v : ℕ) → ((b x : Json) → matches v b x ≡ [] → near n v x ≡ [] → GoodValues n d v b x) → (bs xs : List Json) → length bs ≡ length xs → forBoth (matches v) bs xs ≡ [] → forEach (near n v) xs ≡ []
+levels-good : (n d v : ℕ) → ((b x : Json) → matches v b x ≡ [] → ranged n v x ≡ [] → GoodValues n d v b x) → (bs xs : List Json) → length bs ≡ length xs → forBoth (matches v) bs xs ≡ [] → forEach (ranged n v) xs ≡ []
     → Both (Shaped d v) (map (nestOf indexOf d) bs) (map (nestOf valueOf v) xs) × All (Leaves (GoodValue n) v) (map (nestOf valueOf v) xs)
 unfolding forBoth forEach
 levels-good n d v good [] [] l p r = (tt, tt)
 levels-good n d v good [] (x ∷ xs) l p r = absurd (omega arith)
 levels-good n d v good (b ∷ bs) [] l p r = absurd (omega arith)
 levels-good n d v good (b ∷ bs) (x ∷ xs) l p r =
-    let one = good b x (nil-left (matches v b x) _ p) (nil-left (near n v x) _ r) in
-    let more = levels-good n d v good bs xs (omega arith) (nil-right (matches v b x) _ p) (nil-right (near n v x) _ r) in
+    let one = good b x (nil-left (matches v b x) _ p) (nil-left (ranged n v x) _ r) in
+    let more = levels-good n d v good bs xs (omega arith) (nil-right (matches v b x) _ p) (nil-right (ranged n v x) _ r) in
     ((one .0, more .0), (one .1, more .1))
 
 -- one level of values over one of a boundary: of its count
@@ -100,8 +100,8 @@ matches-clear d b x m =
     (eqb-true _ _ (both-right (isArrayValue x) _ t), cond-left alike _ [] t (nil-right (unless alike 12 x) _ m))
 
 -- values in v levels over a boundary of no fewer: of its counts, each null or below n
-pub values-good : (n d v : ℕ) (b x : Json) → v ≤ d → matches v b x ≡ [] → near n v x ≡ [] → GoodValues n d v b x
-unfolding matches near nestOf
+pub values-good : (n d v : ℕ) (b x : Json) → v ≤ d → matches v b x ≡ [] → ranged n v x ≡ [] → GoodValues n d v b x
+unfolding matches ranged nestOf
 values-good n d zero b x h m q = (tt, value-good n x (kept _ 12 x m) q)
 values-good n zero (suc v) b x h m q = absurd (omega arith)
 values-good n (suc d) (suc v) b x h m q =
@@ -121,11 +121,11 @@ three-good read P z v a = (of (elements v) 0 a, of (elements v) 1 a, of (element
     of (w ∷ ws) (suc i) b = of ws i (b .1)
 
 -- a pair in range
-pub pair-good : (d : Decimal) → isPair (cond (inRange d) (some d) option.none) ≡ true → GoodDecimal d
-unfolding isPair inRange
+pub pair-good : (d : Decimal) → isSome (cond (inRange d) (some d) option.none) ≡ true → GoodDecimal d
+unfolding isSome inRange
 pair-good d e = of (inRange d) refl e
   where
-    of : (b : Bool) → inRange d ≡ b → isPair (cond b (some d) option.none) ≡ true → GoodDecimal d
+    of : (b : Bool) → inRange d ≡ b → isSome (cond b (some d) option.none) ≡ true → GoodDecimal d
     of true q t = (ltb-true _ _ (both-left _ _ q), leb-true _ _ (both-right (ltb (natAbs (d .m)) (10 ^ 15)) _ q))
     of false q t = absurd (never t refl)
 
@@ -134,11 +134,11 @@ decimal-zero : GoodDecimal (record { m = pos 0; e = pos 0 })
 decimal-zero = (omega arith, omega arith)
 
 -- a transform number
-decimal-good : (v : Json) → inPairRange v ≡ [] → GoodDecimal (decimalOf v)
-unfolding decimalOf numberOf zeroIfNone inPairRange
+decimal-good : (v : Json) → pairRange v ≡ [] → GoodDecimal (decimalOf v)
+unfolding decimalOf maybeDecimal zeroIfNone pairRange
 decimal-good (null p e) h = decimal-zero
 decimal-good (bool p e b) h = decimal-zero
-decimal-good (num p e raw) h = pair-good (decimal raw) (numeral-ok 13 (λ r. isPair (pairOf r)) (num p e raw) refl h)
+decimal-good (num p e raw) h = pair-good (decimal raw) (numeral-ok 13 (λ r. isSome (pairOf r)) (num p e raw) refl h)
 decimal-good (str p e raw) h = decimal-zero
 decimal-good (arr p e vs) h = decimal-zero
 decimal-good (obj p e ms) h = decimal-zero
@@ -149,14 +149,14 @@ GoodPairs v = AllThree GoodDecimal (threeOf decimalOf v)
 
 -- they are in range
 pub pairs-good : (v : Json) → threePairs v ≡ [] → GoodPairs v
-unfolding threePairs decimalOf numberOf zeroIfNone
+unfolding threePairs decimalOf maybeDecimal zeroIfNone
 pairs-good v e =
-    let c = clear (isArray ∷ each isNumber ∷ holdsThree ∷ each inPairRange ∷ []) v e in
-    three-good decimalOf GoodDecimal decimal-zero v (each-good inPairRange decimalOf GoodDecimal decimal-good (elements v) (c .1 .1 .1 .0))
+    let c = clear (arrayKind ∷ eachElement numberKind ∷ threeEntries ∷ eachElement pairRange ∷ []) v e in
+    three-good decimalOf GoodDecimal decimal-zero v (each-good pairRange decimalOf GoodDecimal decimal-good (elements v) (c .1 .1 .1 .0))
 
 -- also where there is no value
 pub pairs-null : GoodPairs (null 0 0)
-unfolding threeOf decimalOf numberOf zeroIfNone elements
+unfolding threeOf decimalOf maybeDecimal zeroIfNone elements
 pairs-null = (decimal-zero, decimal-zero, decimal-zero)
 
 -- an integer of 32 signed bits
@@ -181,16 +181,16 @@ integers (v ∷ vs) h = (both-left (isIntegerValue v) _ h, integers vs (both-rig
 
 -- a vertex: three integers, whose range is checked
 pub vertex-clear : (v : Json) → vertex v ≡ [] → (length (elements v) ≡ 3) × All (λ w. isIntegerValue w ≡ true) (elements v) × (forEach coordinate (elements v) ≡ [])
-unfolding vertex isTriple each
+unfolding vertex isTriple eachElement
 vertex-clear v e = of (isTriple v) refl e
   where
-    of : (b : Bool) → isTriple v ≡ b → cond b (each coordinate v) (unless false 12 v) ≡ [] → (length (elements v) ≡ 3) × All (λ w. isIntegerValue w ≡ true) (elements v) × (forEach coordinate (elements v) ≡ [])
+    of : (b : Bool) → isTriple v ≡ b → cond b (eachElement coordinate v) (unless false 12 v) ≡ [] → (length (elements v) ≡ 3) × All (λ w. isIntegerValue w ≡ true) (elements v) × (forEach coordinate (elements v) ≡ [])
     of true q d =
         (eqb-true _ _ (both-right (isArrayValue v) _ (both-left _ (allIntegers (elements v)) q)), integers (elements v) (both-right (isArrayValue v && eqb (length (elements v)) 3) _ q), d)
     of false q d = absurd (never (kept false 12 v d) refl)
 
 pub vertex-good : (v : Json) → vertex v ≡ [] → GoodVertex (threeOf integerOf v)
-unfolding integerOf decimalOf numberOf zeroIfNone wholeOf
+unfolding integerOf decimalOf maybeDecimal zeroIfNone wholeOf
 vertex-good v e =
     let (l, i, c) = vertex-clear v e in
     three-good integerOf (λ z. mag z < 2 ^ 31) (omega arith) v

@@ -1,4 +1,4 @@
--- A value takes at least as many bytes of its text as its size says, so the sheet of every accepted text is short. Assumes nothing.
+-- A value takes at least as many bytes of its text as its size says, so the sheet of every accepted text is short.
 use Prim.Native.Nat.{ℕ, _+_, _≤_}
 use native.Mathlib.Omega.{arith}
 use mathlib.Core.Path.{_≡_}

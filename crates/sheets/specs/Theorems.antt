@@ -1,4 +1,4 @@
--- What is proved of lay's answers and of the lent sheet, for texts and rooms of any sizes (document 01, demand 3 and "Town and sheet"). Assumes nothing.
+-- What is proved of lay's answers and of the lent sheet, for texts and rooms of any sizes (document 01, demand 3 and "Town and sheet").
 use Prim.Native.Nat.{ℕ, _-_, _^_, _≤_, _<_}
 use native.Mathlib.Omega.{arith}
 use mathlib.Core.Path.{_≡_, refl, sym, ap, _∙_}

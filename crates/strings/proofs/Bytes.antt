@@ -1,4 +1,4 @@
--- Digits, escapes and characters, from what the code's tests say. Assumes nothing.
+-- Digits, escapes and characters, from what the code's tests say.
 use Prim.Native.Nat.{ℕ, zero, suc, _+_, _-_, _*_, _/_, _%_, _≤_, _<_}
 use native.Mathlib.Omega.{arith}
 use mathlib.Core.Path.{_≡_, refl, ap}
@@ -6,9 +6,9 @@ use mathlib.Core.Bool.{true, false}
 use mathlib.Core.List.{List, [], _∷_}
 use lib.ListN.{length, getD}
 use borrow.Author.Tests.{ne-eqb, le-leb, lt-leb, lt-ltb, le-ltb}
+use Rattle.utf8.specs.Bytes.{le}
 use Rattle.utf8.specs.Utf8.{encode, tail}
 use Rattle.strings.specs.Strings.{hexValue, escaped, isHigh, isLow, alone, paired}
-use Rattle.strings.specs.Spans.{pending}
 use Rattle.strings.specs.Parts.{unitAt}
 
 -- w is the byte b as a wider number
@@ -138,21 +138,21 @@ module _ (u : ℕ) where
 
 -- bytes that are put together as one number
 module _ (a b c : ℕ) (ha : a < 192) (hb : b < 192) (hc : c < 192) where
-  pub pending-1 : pending 1 a ≡ a ∷ []
-  unfolding pending
-  pending-1 = let e : a % 256 ≡ a = omega arith in rw e
+  pub le-1 : le 1 a ≡ a ∷ []
+  unfolding le
+  le-1 = let e : a % 256 ≡ a = omega arith in rw e
 
-  pub pending-2 : pending 2 (b + a * 256) ≡ b ∷ a ∷ []
-  unfolding pending
-  pending-2 =
+  pub le-2 : le 2 (b + a * 256) ≡ b ∷ a ∷ []
+  unfolding le
+  le-2 =
       let e : (b + a * 256) % 256 ≡ b = omega arith in
       let f : (b + a * 256) / 256 ≡ a = omega arith in
       let g : a % 256 ≡ a = omega arith in
       rw (e, f, g)
 
-  pub pending-3 : pending 3 (c + b * 256 + a * 65536) ≡ c ∷ b ∷ a ∷ []
-  unfolding pending
-  pending-3 =
+  pub le-3 : le 3 (c + b * 256 + a * 65536) ≡ c ∷ b ∷ a ∷ []
+  unfolding le
+  le-3 =
       let e : (c + b * 256 + a * 65536) % 256 ≡ c = omega arith in
       let f : (c + b * 256 + a * 65536) / 256 ≡ b + a * 256 = omega arith in
       let g : (b + a * 256) % 256 ≡ b = omega arith in
@@ -160,7 +160,7 @@ module _ (a b c : ℕ) (ha : a < 192) (hb : b < 192) (hc : c < 192) where
       let i : a % 256 ≡ a = omega arith in
       rw (e, f, g, h, i)
 
-pub pending-some : (n w : ℕ) → (n ≡ 0 → ⊥) → pending n w ≡ w % 256 ∷ pending (n - 1) (w / 256)
-unfolding pending
-pending-some zero w h = absurd (h refl)
-pending-some (suc n) w h = let e : n ≡ suc n - 1 = omega arith in ap (λ (m : ℕ). w % 256 ∷ pending m (w / 256)) e
+pub le-some : (n w : ℕ) → (n ≡ 0 → ⊥) → le n w ≡ w % 256 ∷ le (n - 1) (w / 256)
+unfolding le
+le-some zero w h = absurd (h refl)
+le-some (suc n) w h = let e : n ≡ suc n - 1 = omega arith in ap (λ (m : ℕ). w % 256 ∷ le m (w / 256)) e

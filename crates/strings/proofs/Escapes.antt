@@ -1,13 +1,14 @@
--- What a backslash begins, and a step of the cursor, from what the code's tests and calls say. Assumes nothing.
+-- What a backslash begins, and a step of the cursor, from what the code's tests and calls say.
 use Prim.Native.Nat.{ℕ, _+_, _-_, _*_, _/_, _%_, _≤_, _<_}
 use native.Mathlib.Omega.{arith}
 use mathlib.Core.Path.{_≡_, refl, _∙_}
 use mathlib.Core.Bool.{false, _&&_}
 use mathlib.Core.List.{List, [], _∷_, _++_}
 use lib.ListN.{getD}
+use Rattle.utf8.specs.Bytes.{le}
 use Rattle.utf8.specs.Utf8.{encode}
 use Rattle.strings.specs.Strings.{unit, escaped, isHigh, paired, alone}
-use Rattle.strings.specs.Spans.{Span, decodeAt, pending, ahead, away, Steps}
+use Rattle.strings.specs.Spans.{Span, decodeAt, ahead, away, Steps}
 use Rattle.strings.specs.Parts.{partsAt, unitAt, lowFirst, Halves, Escapes, IsShort, IsLong, Spreads}
 use Rattle.strings.specs.declared.Cursor.{Cursor}
 use Rattle.strings.specs.declared.Step.{Step}
@@ -16,7 +17,7 @@ use Rattle.strings.specs.declared.Escape.{Escape}
 use Rattle.strings.specs.declared.Escape.the-variants.{Cut, Short, Long}
 use Rattle.strings.specs.declared.Second.{Second}
 use Rattle.strings.specs.declared.Second.the-variants.{Half, Missing}
-use Rattle.strings.proofs.Bytes.{high-under, high-over, high-is, low-under, low-over, low-is, alone-over, encode-1, encode-2, encode-3, encode-4, pending-1, pending-2, pending-3, pending-some}
+use Rattle.strings.proofs.Bytes.{high-under, high-over, high-is, low-under, low-over, low-is, alone-over, encode-1, encode-2, encode-3, encode-4, le-1, le-2, le-3, le-some}
 use Rattle.strings.proofs.Pieces.{parts-end, parts-plain, parts-cut, parts-short, parts-few, parts-unit, no-low, not-high, no-low-first, stands-none, places-none, stands-byte, places-byte, stands-unit, places-unit, stands-pair, places-pair}
 
 -- the second half of a pair
@@ -155,22 +156,22 @@ cursor at end word left = record { at = at; end = end; word = word; left = left 
 
 module _ (u at end : ℕ) where
   pub spread-1 : u < 0x80 → Spreads u at end (Byte u (cursor at end 0 0))
-  unfolding Spreads pending
+  unfolding Spreads le
   spread-1 h = record { bytes = encode-1 u h; few = omega arith; from = refl; till = refl }
 
   module _ (a : ℕ) (p : a ≡ 0x80 + u % 64) where
     pub spread-2 : 0x80 ≤ u → u < 0x800 → Spreads u at end (Byte (0xC0 + u / 64) (cursor at end a 1))
     unfolding Spreads
-    spread-2 l h = rw p (record { bytes = rw (pending-1 (0x80 + u % 64) 0 0 (omega arith) (omega arith) (omega arith)) (encode-2 u l h); few = omega arith; from = refl; till = refl })
+    spread-2 l h = rw p (record { bytes = rw (le-1 (0x80 + u % 64) 0 0 (omega arith) (omega arith) (omega arith)) (encode-2 u l h); few = omega arith; from = refl; till = refl })
 
     module _ (b : ℕ) (q : b ≡ 0x80 + u / 64 % 64) where
       pub spread-3 : 0x800 ≤ u → u < 0x10000 → Spreads u at end (Byte (0xE0 + u / 4096) (cursor at end (b + a * 256) 2))
       unfolding Spreads
-      spread-3 l h = rw (p, q) (record { bytes = rw (pending-2 (0x80 + u % 64) (0x80 + u / 64 % 64) 0 (omega arith) (omega arith) (omega arith)) (encode-3 u l h); few = omega arith; from = refl; till = refl })
+      spread-3 l h = rw (p, q) (record { bytes = rw (le-2 (0x80 + u % 64) (0x80 + u / 64 % 64) 0 (omega arith) (omega arith) (omega arith)) (encode-3 u l h); few = omega arith; from = refl; till = refl })
 
       pub spread-4 : (c : ℕ) → c ≡ 0x80 + u / 4096 % 64 → 0x10000 ≤ u → Spreads u at end (Byte (0xF0 + u / 262144) (cursor at end (c + b * 256 + a * 65536) 3))
       unfolding Spreads
-      spread-4 c r l = rw (p, q, r) (record { bytes = rw (pending-3 (0x80 + u % 64) (0x80 + u / 64 % 64) (0x80 + u / 4096 % 64) (omega arith) (omega arith) (omega arith)) (encode-4 u l); few = omega arith; from = refl; till = refl })
+      spread-4 c r l = rw (p, q, r) (record { bytes = rw (le-3 (0x80 + u % 64) (0x80 + u / 64 % 64) (0x80 + u / 4096 % 64) (omega arith) (omega arith) (omega arith)) (encode-4 u l); few = omega arith; from = refl; till = refl })
 
 -- a step where no character is begun
 module _ {x : List ℕ} {at end : ℕ} (s : Span x at end) where
@@ -179,7 +180,7 @@ module _ {x : List ℕ} {at end : ℕ} (s : Span x at end) where
   fresh-done n l = stands-none x at end (parts-end s l)
 
   pub fresh-plain : at < end → (getD x at 0 ≡ 92 → ⊥) → Steps x (decodeAt x at end) (end - at) (Byte (getD x at 0) (cursor (at + 1) end 0 0))
-  unfolding Steps ahead pending away
+  unfolding Steps ahead le away
   fresh-plain l n = record { first = stands-byte x at end _ (at + 1) (parts-plain s l n); span = record { low = omega arith; high = s .high }; nearer = omega arith }
 
   module _ (r : Escape) (h : Escapes x at end r) where
@@ -188,7 +189,7 @@ module _ {x : List ℕ} {at end : ℕ} (s : Span x at end) where
     fresh-cut n q = cut-stands s r h q
 
     pub fresh-short : (b : ℕ) → r ≡ Short b → Steps x (decodeAt x at end) (end - at) (Byte b (cursor (at + 2) end 0 0))
-    unfolding Steps ahead pending away
+    unfolding Steps ahead le away
     fresh-short b q = record { first = short-stands s r h b q; span = short-span s r h b q; nearer = omega (arith, short-within s r h b q) }
 
     pub fresh-long : (u to : ℕ) → r ≡ Long u to → (t : Step) → Spreads u to end t → Steps x (decodeAt x at end) (end - at) t
@@ -200,9 +201,9 @@ module _ {x : List ℕ} {at end : ℕ} (s : Span x at end) where
 
 -- a step
 pub next-fresh : (x : List ℕ) (c : Cursor) (t : Step) → c .left ≡ 0 → Steps x (decodeAt x (c .at) (c .end)) (c .end - c .at) t → Steps x (ahead x c) (away c) t
-unfolding ahead away pending
+unfolding ahead away le
 next-fresh x c t e h = rw e (let z : c .end - c .at + 0 ≡ c .end - c .at = omega arith in rw z h)
 
 pub next-begun : (x : List ℕ) (c : Cursor) → Span x (c .at) (c .end) → (c .left ≡ 0 → ⊥) → Steps x (ahead x c) (away c) (Byte (c .word % 256) (cursor (c .at) (c .end) (c .word / 256) (c .left - 1)))
 unfolding Steps ahead away
-next-begun x c s n = record { first = rw (pending-some (c .left) (c .word) n); span = s; nearer = omega arith }
+next-begun x c s n = record { first = rw (le-some (c .left) (c .word) n); span = s; nearer = omega arith }

@@ -1,4 +1,4 @@
--- The turns of the loops. Assumes nothing.
+-- The turns of the loops.
 use Prim.Native.Nat.{ℕ, zero, suc, _+_, _≤_, _<_}
 use native.Mathlib.Omega.{arith}
 use native.Mathlib.Numerals.{add-one}

@@ -1,4 +1,4 @@
--- The pieces of a part of a text, by the bytes at its start. Assumes nothing.
+-- The pieces of a part of a text, by the bytes at its start.
 use Prim.Native.Nat.{ℕ, zero, suc, _+_, _-_, _*_, _≤_, _<_}
 use native.Mathlib.Omega.{arith}
 use mathlib.Core.Path.{_≡_, refl, ap, sym, _∙_}

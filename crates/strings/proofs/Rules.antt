@@ -1,4 +1,4 @@
--- What `search` is handed to close what the functions leave. Assumes nothing.
+-- What `search` is handed to close what the functions leave.
 use borrow.Author.Needs.{needs}
 use Rattle.strings.proofs.Bytes.{hex-under, hex-digit, hex-upper, hex-between, hex-lower, unit-is, paired-is, escaped-b, escaped-f, escaped-n, escaped-r, escaped-t, escaped-same, width-1, width-2, width-3, width-4}
 use Rattle.strings.specs.Laws.{onward, at-end, step-done, step-span, step-nearer}

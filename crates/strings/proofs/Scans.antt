@@ -1,4 +1,4 @@
--- Looking for a backslash, and comparing a string as it stands with a word or another string. Assumes nothing.
+-- Looking for a backslash, and comparing a string as it stands with a word or another string.
 use Prim.Native.Nat.{ℕ, zero, suc, _+_, _-_, _≤_, _<_}
 use native.Mathlib.Omega.{arith}
 use native.Mathlib.Numerals.{add-one}

@@ -7,7 +7,7 @@ use mathlib.Core.List.{List, [], _∷_, _++_, append-nil, append-assoc}
 use lib.Dec.{eqb, leb}
 use borrow.Author.Tests.{leb-true, le-leb, ne-eqb}
 use Rattle.utf8.specs.Utf8.{isCharacter, encode, Whole}
-use Rattle.utf8.specs.Utf8.Whole.{none, next}
+use Rattle.utf8.specs.Utf8.Whole.{nil, next}
 use Rattle.utf8.specs.Laws.{clash, both-left, both-right, nil-left, nil-right}
 use Rattle.utf8.specs.Splits.{whole-append, whole-cons, whole-split, character-above}
 use Rattle.strings.specs.Strings.{Piece, byte, unit, plain, hexValue, escaped, pieces, ended, isHigh, isLow, paired, decoded, decode, alone, unpaired, unpairedFrom}
@@ -118,7 +118,7 @@ decoded-whole [] us e pre w = w
 decoded-whole (byte b ∷ ps) us e pre w = shift b pre (decoded ps) (decoded-whole ps us e (pre ++ b ∷ []) (unshift b pre (masked ps) w))
 decoded-whole (unit p u ∷ []) us e pre w =
     let (v, t) = whole-split pre [] 63 (omega arith) w in
-    rw (← append-nil (encode u)) (between u (alone-character p u e (us .0)) v none)
+    rw (← append-nil (encode u)) (between u (alone-character p u e (us .0)) v nil)
 decoded-whole (unit p u ∷ byte b ∷ ps) us e pre w =
     let (v, t) = whole-split pre (b ∷ masked ps) 63 (omega arith) w in
     between u (alone-character p u (nil-left _ _ e) (us .0)) v (decoded-whole ps (us .1) (nil-right (alone p u) _ e) (b ∷ []) t)

@@ -1,4 +1,4 @@
--- Worked examples of decoding. Assumes nothing.
+-- Worked examples of decoding.
 use mathlib.Core.Path.{_≡_, refl}
 use mathlib.Core.List.{[], _∷_}
 use Rattle.strings.specs.Strings.{decode, unpairedFrom}

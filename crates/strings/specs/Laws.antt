@@ -1,5 +1,5 @@
 -- Laws of decoding: where a string stands does not change what it stands for; it stands for no more bytes than it has; strings that begin apart do not stand for the same bytes; the places of its unpaired surrogates are in increasing order, and there are none where no byte is a backslash.
--- Assumes nothing.
+--
 use Prim.Native.Nat.{ℕ, zero, suc, _+_, _-_, _*_, _/_, _≤_, _<_}
 use native.Mathlib.Numerals.{add-one}
 use native.Mathlib.Omega.{arith}
@@ -11,9 +11,10 @@ use lib.ListN.{length, getD, take, drop, length-append, take-append-drop, drop-o
 use lib.Dec.{eqb, leb, ltb}
 use lib.Seq.{slice, slice-cons, length-slice, length-take-le}
 use borrow.Author.Tests.{ltb-true, not-true, ne-eqb, eqb-false}
+use Rattle.utf8.specs.Bytes.{le}
 use Rattle.utf8.specs.Utf8.{encode, same}
 use Rattle.utf8.specs.Laws.{clash, both-left, both-right, neither}
-use Rattle.strings.specs.Spans.{Span, decodeAt, unpairedAt, pending, ahead, away, Hands, Steps, firstOf, hasByte, beginApart}
+use Rattle.strings.specs.Spans.{Span, decodeAt, unpairedAt, ahead, away, Hands, Steps, firstOf, hasByte, beginApart}
 use Rattle.strings.specs.declared.Cursor.{Cursor}
 use Rattle.strings.specs.declared.Step.{Step}
 use Rattle.strings.specs.declared.Step.the-variants.{Byte, Done}
@@ -195,7 +196,7 @@ module _ (x l : List ℕ) (n : ℕ) (s : Step) (h : Steps x l n s) where
 
 -- a cursor with no character begun has ahead what its part of the text stands for
 pub ahead-start : (x : List ℕ) (at end word : ℕ) → ahead x (record { at = at; end = end; word = word; left = 0 }) ≡ decodeAt x at end
-unfolding ahead pending
+unfolding ahead le
 ahead-start x at end word = refl
 
 -- places in increasing order, the first at n or later, the last before e

@@ -1,13 +1,14 @@
--- What the inner functions tell: of the escape at an offset, and of the bytes of a character. Assumes nothing: these are definitions.
+-- What the inner functions tell: of the escape at an offset, and of the bytes of a character.
 use Prim.Native.Nat.{ℕ, _+_, _-_, _*_, _≤_, _<_}
 use mathlib.Core.Path.{_≡_}
 use mathlib.Core.Bool.{Bool, true, false}
 use mathlib.Core.List.{List, [], _∷_, _++_}
 use lib.ListN.{length, getD}
 use lib.Seq.{slice}
+use Rattle.utf8.specs.Bytes.{le}
 use Rattle.utf8.specs.Utf8.{encode, same}
 use Rattle.strings.specs.Strings.{Piece, byte, unit, plain, pieces, hexValue, isLow, alone}
-use Rattle.strings.specs.Spans.{decodeAt, unpairedAt, pending}
+use Rattle.strings.specs.Spans.{decodeAt, unpairedAt}
 use Rattle.strings.specs.declared.Cursor.{Cursor}
 use Rattle.strings.specs.declared.Step.{Step}
 use Rattle.strings.specs.declared.Step.the-variants.{Byte, Done}
@@ -70,9 +71,9 @@ Escapes x at end Cut = IsCut x at end
 Escapes x at end (Short b) = IsShort x at end b
 Escapes x at end (Long u to) = IsLong x at end u to
 
--- the bytes of a character: the first is handed out, the others are pending in d, which goes on at at
+-- the bytes of a character: the first is handed out, the others are le in d, which goes on at at
 pub record IsSpread (u at end b : ℕ) (d : Cursor) : Type 0 where
-  pub bytes : encode u ≡ b ∷ pending (d .left) (d .word)
+  pub bytes : encode u ≡ b ∷ le (d .left) (d .word)
   pub few : d .left ≤ 3
   pub from : d .at ≡ at
   pub till : d .end ≡ end

@@ -1,5 +1,5 @@
 -- What the public functions tell of a string of a text. A string is given by the text x and two offsets: at, just after its opening quote, and end, its closing quote.
--- Assumes nothing: these are definitions.
+--
 use Prim.Native.Nat.{ℕ, zero, suc, _+_, _-_, _/_, _%_, _≤_, _<_}
 use mathlib.Core.Path.{_≡_}
 use mathlib.Core.Bool.{Bool, false, not, _&&_, _||_}
@@ -7,6 +7,7 @@ use mathlib.Core.List.{List, [], _∷_, _++_}
 use lib.ListN.{length, getD, take, drop}
 use lib.Dec.{eqb, ltb}
 use lib.Seq.{slice}
+use Rattle.utf8.specs.Bytes.{le}
 use Rattle.strings.specs.Strings.{decode, unpairedFrom}
 use Rattle.strings.specs.declared.Cursor.{Cursor}
 use Rattle.strings.specs.declared.Step.{Step}
@@ -29,15 +30,10 @@ unfoldable pub unpairedAt : List ℕ → ℕ → ℕ → List ℕ
 unfolding unpairedFrom
 unpairedAt x at end = unpairedFrom at (slice at end x)
 
--- the so many lowest bytes of a number, the lowest first
-unfoldable pub pending : ℕ → ℕ → List ℕ
-pending zero w = []
-pending (suc n) w = w % 256 ∷ pending n (w / 256)
-
 -- the bytes that a cursor is still to hand out: those of a character that is begun, then what its part of the text stands for
 unfoldable pub ahead : List ℕ → Cursor → List ℕ
-unfolding pending decodeAt
-ahead x c = pending (c .left) (c .word) ++ decodeAt x (c .at) (c .end)
+unfolding le decodeAt
+ahead x c = le (c .left) (c .word) ++ decodeAt x (c .at) (c .end)
 
 -- how far a cursor is from its end; falls with each byte that is handed out
 unfoldable pub away : Cursor → ℕ

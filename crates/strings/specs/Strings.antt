@@ -1,5 +1,5 @@
 -- JSON strings decoded (RFC 8259, section 7): from the bytes between the quotes to the UTF-8 bytes that they stand for.
--- The definitions take any bytes; what they make of bytes that no JSON string has matters nowhere. Assumes nothing: these are definitions.
+-- The definitions take any bytes; what they make of bytes that no JSON string has matters nowhere.
 use Prim.Native.Nat.{ℕ, zero, suc, _+_, _-_, _*_}
 use mathlib.Core.Bool.{Bool, true, false, cond, _&&_}
 use mathlib.Core.List.{List, [], _∷_, _++_}

@@ -1,4 +1,4 @@
--- The code's tests of two, three and four bytes agree with `written` (RFC 3629, section 4, says the same ranges). Assumes nothing.
+-- The code's tests of two, three and four bytes agree with `written` (RFC 3629, section 4, says the same ranges).
 use Prim.Native.Nat.{ℕ, _+_, _*_, _-_, _/_, _%_, _≤_, _<_}
 use native.Mathlib.Omega.{arith}
 use mathlib.Core.Path.{_≡_, refl, sym, _∙_, subst}

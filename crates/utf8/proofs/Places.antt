@@ -1,4 +1,4 @@
--- What the bytes at a place of the text say of `size` and `wholeLength` there. Assumes nothing.
+-- What the bytes at a place of the text say of `size` and `wholeLength` there.
 use Prim.Native.Nat.{ℕ, zero, suc, _+_, _-_, _≤_, _<_}
 use native.Mathlib.Omega.{arith}
 use native.Mathlib.Numerals.{add-one}

@@ -1,4 +1,4 @@
--- Worked examples of `wholeLength`. Assumes nothing.
+-- Worked examples of `wholeLength`.
 use mathlib.Core.Path.{_≡_, refl}
 use mathlib.Core.List.{[], _∷_}
 use Rattle.utf8.specs.Utf8.{isCharacter, tail, encode, number, same, written, size, wholeFrom, wholeLength}

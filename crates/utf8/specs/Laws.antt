@@ -1,4 +1,4 @@
--- Lemmas on the definitions of Utf8: what the theorems of Meaning and the proofs of the code share. Assumes nothing.
+-- Lemmas on the definitions of Utf8: what the theorems of Meaning and the proofs of the code share.
 use Prim.Native.Nat.{ℕ, zero, suc, _+_, _*_, _/_, _%_, _≤_, _<_}
 use native.Mathlib.Omega.{arith}
 use mathlib.Core.Path.{_≡_, refl, sym, _∙_, ap, subst}

@@ -1,5 +1,6 @@
 -- Characters in UTF-8 (RFC 3629), and how much of a text they make up.
 pub mod Ascii
+pub mod Bytes
 pub mod Utf8
 pub mod Says
 pub mod Laws

@@ -1,4 +1,4 @@
--- What `wholeLength` means: that many bytes are whole characters, and no longer prefix is. Assumes nothing.
+-- What `wholeLength` means: that many bytes are whole characters, and no longer prefix is.
 use Prim.Native.Nat.{ℕ, zero, suc, _+_, _≤_, _<_}
 use native.Mathlib.Omega.{arith}
 use native.Mathlib.Nat.{eq-zero-or-pos}
@@ -9,7 +9,7 @@ use mathlib.Core.Logic.{⊎-elim}
 use lib.ListN.{length, take, drop, length-append, length-drop, take-append-drop}
 use lib.Seq.{take-add, take-append-seam, drop-append-seam, length-take-le}
 use Rattle.utf8.specs.Utf8.{isCharacter, encode, Whole, number, size, wholeLength}
-use Rattle.utf8.specs.Utf8.Whole.{none, next}
+use Rattle.utf8.specs.Utf8.Whole.{nil, next}
 use Rattle.utf8.specs.Laws.{Form, form, written-encode, written-character, written-bytes, size-is, size-within, size-written, whole-stop, whole-on}
 use Rattle.utf8.specs.Laws.Form.{one, two, three, four}
 
@@ -19,7 +19,7 @@ record Good (t : List ℕ) : Type 0 where
   whole : Whole (take (wholeLength t) t)
 
 stops : (t : List ℕ) → wholeLength t ≡ 0 → Good t
-stops t e = record { within = omega arith; whole = rw e none }
+stops t e = record { within = omega arith; whole = rw e nil }
 
 goes-on : (t : List ℕ) → 0 < size t → Good (drop (size t) t) → Good t
 goes-on t h g =
@@ -55,7 +55,7 @@ starts c h s =
 
 -- whole characters that a text begins with are counted
 counted : {x : List ℕ} → Whole x → (y : List ℕ) → length x ≤ wholeLength (x ++ y)
-counted none y = omega arith
+counted nil y = omega arith
 counted (next c {s} {x} h e w) y =
     rw (e, append-assoc, starts c h (s ++ y)) (omega (arith, length-append (encode c) s, counted w y))
 

@@ -10,7 +10,7 @@ use lib.ListN.{length, take, drop, getD}
 use lib.Seq.{split-at, take-all, slice, length-take-le, getD-take}
 use borrow.Author.Tests.{le-leb, lt-leb}
 use Rattle.utf8.specs.Utf8.{isCharacter, encode, Whole, wholeLength}
-use Rattle.utf8.specs.Utf8.Whole.{none, next}
+use Rattle.utf8.specs.Utf8.Whole.{nil, next}
 use Rattle.utf8.specs.Laws.{clash, Form, form, encode-one}
 use Rattle.utf8.specs.Laws.Form.{one, two, three, four}
 use Rattle.utf8.specs.Meaning.{whole-prefix}
@@ -23,7 +23,7 @@ whole-text x h = rw (take-all (wholeLength x) x h) at (whole-prefix x)
 
 -- two sequences of characters, one after the other, are one
 pub whole-append : {x y : List ℕ} → Whole x → Whole y → Whole (x ++ y)
-whole-append none v = v
+whole-append nil v = v
 whole-append {y = y} (next c {s} h e w) v = next c {s = s ++ y} h (ap (λ (l : List ℕ). l ++ y) e ∙ append-assoc (encode c) s y) (whole-append w v)
 
 -- a number below the surrogates is a character
@@ -77,7 +77,7 @@ split-on : (c : ℕ) → isCharacter c ≡ true → {t : List ℕ} → Whole t �
 split-on c i {t} w s b h f (inl e) [] q =
     let z : c ∷ t ≡ b ∷ s = rw e at q in
     let y : t ≡ s = cc in
-    (none, subst Whole y w)
+    (nil, subst Whole y w)
 split-on c i {t} w s b h f (inl e) (d ∷ a) q =
     let z : c ∷ t ≡ d ∷ (a ++ b ∷ s) = rw e at q in
     let y = f a (cc) in
@@ -89,8 +89,8 @@ split-on c i {t} w s b h f (inr g) a q =
     (next c i p (z .0), z .1)
 
 splits : {t : List ℕ} → Whole t → (s : List ℕ) (b : ℕ) → b < 128 → Splits t b s
-splits none s b h [] q = clash cc
-splits none s b h (d ∷ a) q = clash cc
+splits nil s b h [] q = clash cc
+splits nil s b h (d ∷ a) q = clash cc
 splits (next c i e w) s b h a q = split-on c i w s b h (splits w s b h) (one-or-high c (form c)) a (sym e ∙ q)
 
 -- what stands before a byte below 128 is a sequence of characters, and so is what stands after it

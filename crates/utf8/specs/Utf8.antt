@@ -1,4 +1,4 @@
--- Characters and the bytes that each is written as, by RFC 3629, section 3. Assumes nothing: these are definitions.
+-- Characters and the bytes that each is written as, by RFC 3629, section 3.
 use Prim.Native.Nat.{ℕ, zero, suc, _+_, _*_, _/_, _%_}
 use mathlib.Core.Path.{_≡_}
 use mathlib.Core.Bool.{Bool, true, false, cond, not, _&&_}
@@ -25,7 +25,7 @@ encode c =
 
 -- a sequence of characters
 pub data Whole : List ℕ → Type 0 where
-  none : Whole []
+  nil : Whole []
   next : (c : ℕ) {s x : List ℕ} → isCharacter c ≡ true → x ≡ encode c ++ s → Whole s → Whole x
 
 -- the number in the x bits of one to four bytes

@@ -1,4 +1,4 @@
--- The verdict is the lowest broken rule at its earliest place, and a text is accepted exactly if it breaks no rule (document 01, demand 2 for judge). Assumes nothing.
+-- The verdict is the lowest broken rule at its earliest place, and a text is accepted exactly if it breaks no rule (document 01, demand 2 for judge).
 use Prim.Native.Nat.{ℕ, _+_, _*_, _/_, _%_, _≤_, _<_, min}
 use native.Mathlib.Omega.{arith}
 use native.Mathlib.Decide.{decLt}
@@ -15,7 +15,7 @@ use Rattle.json.specs.Machine.{Outcome, reads, bad, tooDeep, read}
 use Rattle.json.specs.Grammar.{Text, Begins}
 use Rattle.grammar.specs.Theorems.{read-text, one-tree, ordered, Stopped, stops, stops-exactly, bad-never, deep-deeper}
 use Rattle.grammar.specs.Reaches.{shorter, begun}
-use Rattle.nodes.specs.Faults.{fault, ruleOf, placeIn, least, none}
+use Rattle.nodes.specs.Faults.{fault, ruleOf, placeIn, least, noFault}
 use Rattle.fields.specs.Fields.{objectsOf}
 use Rattle.model.specs.Code.{All}
 use Rattle.verdict.specs.Verdict.{Verdict, accepted, refused, faults, given, judged, parsed, verdict}
@@ -158,7 +158,7 @@ module _ (x : List ℕ) (h : length x ≤ 65535) (w : length x ≤ wholeLength x
   four-first p l r i b s q (too-deep a k c) = inr (refl, omega (arith, one-longest r a))
   four-first p j r i b s q (in-tree v l d k m) = inl (omega (arith, five x v s q l d k m))
 
-  tree-first : (v : Json) → Text 32 x v → (s q : ℕ) → Breaks x s q → NoLater (ruleOf (least none (faults v))) (placeIn (least none (faults v))) s q
+  tree-first : (v : Json) → Text 32 x v → (s q : ℕ) → Breaks x s q → NoLater (ruleOf (least noFault (faults v))) (placeIn (least noFault (faults v))) s q
   unfolding ruleOf placeIn fault
   tree-first v r s q (too-long k) = absurd (omega arith)
   tree-first v r s q (not-utf8 k) = absurd (omega arith)
@@ -167,8 +167,8 @@ module _ (x : List ℕ) (h : length x ≤ 65535) (w : length x ≤ wholeLength x
   tree-first v r s q (too-deep a k b) = absurd (omega (arith, all-of r a))
   tree-first v r s q (in-tree u l d k m) =
       let z : u ≡ v = one-tree 32 x u v d r in
-      let f = least none (faults v) in
-      let low : f ≤ s * 65536 + q = rw z at (least-low none m) in
+      let f = least noFault (faults v) in
+      let low : f ≤ s * 65536 + q = rw z at (least-low noFault m) in
       by f low (decLt (f / 65536) s)
     where
       by : (f : ℕ) → f ≤ s * 65536 + q → Dec (f / 65536 < s) → NoLater (f / 65536) (f % 65536) s q
@@ -204,9 +204,9 @@ breaks : (x : List ℕ) (v : Json) → length x ≤ 65535 → read x ≡ reads v
 unfolding placeIn
 breaks x v h e {f} m = in-tree {r = ruleOf f} {p = placeIn f} v h (read-text x v .0 e) (omega arith) (rw (split f) m)
 
-least-none : (fs : List ℕ) → All Small fs → none ≤ least none fs → fs ≡ []
+least-none : (fs : List ℕ) → All Small fs → noFault ≤ least noFault fs → fs ≡ []
 least-none [] a h = refl
-least-none (f ∷ fs) a h = let m : List·Memᴰ f (f ∷ fs) = List·Memᴰ·head refl in absurd (omega (arith, a .0 .1, least-low none m))
+least-none (f ∷ fs) a h = let m : List·Memᴰ f (f ∷ fs) = List·Memᴰ·head refl in absurd (omega (arith, a .0 .1, least-low noFault m))
 
 -- the verdict of a text that is no JSON text, or too deep
 module _ (x : List ℕ) (h : length x ≤ 65535) (w : length x ≤ wholeLength x) (p : ℕ) where
@@ -222,15 +222,15 @@ module _ (x : List ℕ) (h : length x ≤ 65535) (w : length x ≤ wholeLength x
 -- the tree's verdict
 of-tree : (x : List ℕ) (v : Json) → length x ≤ 65535 → length x ≤ wholeLength x → read x ≡ reads v → Case x (judged v)
 unfolding judged given
-of-tree x v h w e = by (decLt (least none (faults v)) none)
+of-tree x v h w e = by (decLt (least noFault (faults v)) noFault)
   where
-    found : (least none (faults v) ≡ none) ⊎ List·Memᴰ (least none (faults v)) (faults v) → least none (faults v) < none → List·Memᴰ (least none (faults v)) (faults v)
+    found : (least noFault (faults v) ≡ noFault) ⊎ List·Memᴰ (least noFault (faults v)) (faults v) → least noFault (faults v) < noFault → List·Memᴰ (least noFault (faults v)) (faults v)
     found (inl q) k = absurd (omega arith)
     found (inr m) k = m
 
-    by : Dec (least none (faults v) < none) → Case x (cond (ltb (least none (faults v)) none) (refused (ruleOf (least none (faults v))) (placeIn (least none (faults v)))) (accepted (length (objectsOf v))))
-    by (yes k) = rw (lt-ltb (least none (faults v)) none k) (broken (record { broken = breaks x v h e (found (least-in none (faults v)) k); least = tree-first x h w v (read-text x v .0 e) }))
-    by (no k) = rw (le-ltb (least none (faults v)) none (omega arith)) (clean (record { short = h; whole = w; value = v; reads = e; clean = least-none (faults v) (faults-small v (in-text x v h e)) (omega arith); count = refl }))
+    by : Dec (least noFault (faults v) < noFault) → Case x (cond (ltb (least noFault (faults v)) noFault) (refused (ruleOf (least noFault (faults v))) (placeIn (least noFault (faults v)))) (accepted (length (objectsOf v))))
+    by (yes k) = rw (lt-ltb (least noFault (faults v)) noFault k) (broken (record { broken = breaks x v h e (found (least-in noFault (faults v)) k); least = tree-first x h w v (read-text x v .0 e) }))
+    by (no k) = rw (le-ltb (least noFault (faults v)) noFault (omega arith)) (clean (record { short = h; whole = w; value = v; reads = e; clean = least-none (faults v) (faults-small v (in-text x v h e)) (omega arith); count = refl }))
 
 cases : (x : List ℕ) → Case x (verdict x)
 unfolding parsed

@@ -1,4 +1,4 @@
--- Verdicts by computation: the sample reading of document 01 that has no star, and two texts that are accepted. The starred readings are in `sheets`. Assumes nothing.
+-- Verdicts by computation: the sample reading of document 01 that has no star, and two texts that are accepted. The starred readings are in `sheets`.
 use Prim.Native.Nat.{ℕ}
 use mathlib.Core.Path.{_≡_, refl}
 use mathlib.Core.List.{List, [], _++_}

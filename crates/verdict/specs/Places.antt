@@ -1,4 +1,4 @@
--- Every fault of a tree of a text that is short enough is one of its rules with a place below 65,536. Assumes nothing.
+-- Every fault of a tree of a text that is short enough is one of its rules with a place below 65,536.
 use Prim.Native.Nat.{ℕ, zero, suc, _+_, _*_, _≤_, _<_}
 use native.Mathlib.Omega.{arith}
 use mathlib.Core.Path.{_≡_, refl}
@@ -18,15 +18,15 @@ use Rattle.strings.specs.Strings.{decode, unpairedFrom}
 use Rattle.strings.specs.Laws.{unpaired-within}
 use Rattle.nodes.specs.Access.{isNullValue, isNumberValue, isStringValue, isArrayValue, isObjectValue, textOf, numeralOf, listed, elements, pairs, members, Member, nameOf, firstNamed, find}
 use Rattle.everywhere.specs.Everywhere.{strings, stringsIn, stringsOf, unpairedIn, rule5, among, repeated, rule6, rule6In, rule6Of}
-use Rattle.nodes.specs.Faults.{fault, none}
-use Rattle.shapes.specs.Checks.{Check, unless, all, on, at, forEach, each, values, eachMember, isObject, isString, isNumber, isArray, isSome, needs, text, numeral}
+use Rattle.nodes.specs.Faults.{fault, noFault}
+use Rattle.shapes.specs.Checks.{Check, unless, all, on, at, forEach, eachElement, values, eachMember, objectKind, stringKind, numberKind, arrayKind, isSome, needs, text, numeral, isEmpty}
 use Rattle.numerals.specs.Numerals.{integer, pairOf, fits32, isBelow}
-use Rattle.shapes.specs.Shapes.{holdsThree, isPair, inPairRange, coordinate, isTriple, vertex, shaped, near, forBoth, matches, isNil, isIntegerValue}
+use Rattle.shapes.specs.Shapes.{threeEntries, pairRange, coordinate, isTriple, vertex, shaped, ranged, forBoth, matches, isIntegerValue}
 use Rattle.words.specs.Words.{objectWords, geometryWords, codeOf, is, isAdded, isLod, isSecondLevel, depth, valuesDepth, isPermitted}
 use Rattle.fields.specs.Fields.{typeText, countIn, membersIn, objectsOf}
-use Rattle.schema.specs.Schema.{isObjectType, isGeometryType, isSurfaceType, wordIs, word, objectType, geometryType, lod, surfaceType, boundary, boundaries, surface, surfaces, overBoundary, semantics, needsLod, geometry, geometries, cityObject, nameFault, notTooMany, cityObjects, threePairs, transform, vertices, cityJson}
+use Rattle.schema.specs.Schema.{isObjectType, isGeometryType, isSurfaceType, oneWord, word, objectType, geometryType, lod, surfaceType, boundary, boundaries, surface, surfaces, overBoundary, semantics, needsLod, geometry, geometries, cityObject, nameFault, objectLimit, cityObjects, threePairs, transform, vertices, cityJson}
 use Rattle.schema.specs.Schema as schema
-use Rattle.links.specs.Links.{elementsIn, listedIn, idsAmong, idsIn, link, linksFrom, isEmpty, hasParent, linksOf, linksOfEach, linkFaults}
+use Rattle.links.specs.Links.{elementsIn, listedIn, idsAmong, idsIn, link, linksFrom, parentLink, linksOf, linksOfEach, linkFaults}
 use Rattle.model.specs.Code.{All}
 use Rattle.verdict.specs.Verdict.{faults}
 
@@ -186,8 +186,8 @@ unfolding forEach
 for-safe lo hi c s [] a = tt
 for-safe lo hi c s (v ∷ vs) a = both lo hi (c v) (forEach c vs) (s v (a .0)) (for-safe lo hi c s vs (a .1))
 
-each-safe : (lo hi : ℕ) (c : Check) → Safe lo hi c → Safe lo hi (each c)
-unfolding each
+each-safe : (lo hi : ℕ) (c : Check) → Safe lo hi c → Safe lo hi (eachElement c)
+unfolding eachElement
 each-safe lo hi c s v p = for-safe lo hi c s (elements v) (elements-placed p)
 
 values-placed : (ms : List Member) → All (PlacedMember) ms → All (Placed) (values ms)
@@ -214,20 +214,20 @@ numeral-safe : (lo hi : ℕ) (r : ℕ) (ok : List ℕ → Bool) → Rule lo hi r
 unfolding numeral
 numeral-safe lo hi r ok h v p = unless-safe lo hi (not (isNumberValue v) || ok (numeralOf v)) r h v p
 
-object-safe : Safe 7 15 isObject
-unfolding isObject
+object-safe : Safe 7 15 objectKind
+unfolding objectKind
 object-safe v p = unless-safe 7 15 (isObjectValue v) 7 tt v p
 
-string-safe : Safe 7 15 isString
-unfolding isString
+string-safe : Safe 7 15 stringKind
+unfolding stringKind
 string-safe v p = unless-safe 7 15 (isStringValue v) 7 tt v p
 
-number-safe : Safe 7 15 isNumber
-unfolding isNumber
+number-safe : Safe 7 15 numberKind
+unfolding numberKind
 number-safe v p = unless-safe 7 15 (isNumberValue v) 7 tt v p
 
-array-safe : Safe 7 15 isArray
-unfolding isArray
+array-safe : Safe 7 15 arrayKind
+unfolding arrayKind
 array-safe v p = unless-safe 7 15 (isArrayValue v) 7 tt v p
 
 cond-safe : (lo hi : ℕ) (b : Bool) (xs ys : List ℕ) → All (Among lo hi) xs → All (Among lo hi) ys → All (Among lo hi) (cond b xs ys)
@@ -236,13 +236,13 @@ cond-safe lo hi false xs ys a b = b
 
 -- ---- rules 12 and 13
 
-three-safe : Safe 7 15 holdsThree
-unfolding holdsThree
+three-safe : Safe 7 15 threeEntries
+unfolding threeEntries
 three-safe v p = unless-safe 7 15 (not (isArrayValue v) || eqb (length (elements v)) 3) 12 tt v p
 
-pair-safe : Safe 7 15 inPairRange
-unfolding inPairRange
-pair-safe = numeral-safe 7 15 13 (λ raw. isPair (pairOf raw)) tt
+pair-safe : Safe 7 15 pairRange
+unfolding pairRange
+pair-safe = numeral-safe 7 15 13 (λ raw. isSome (pairOf raw)) tt
 
 coordinate-safe : Safe 7 15 coordinate
 unfolding coordinate
@@ -250,17 +250,17 @@ coordinate-safe = numeral-safe 7 15 13 (λ raw. fits32 (integer raw)) tt
 
 vertex-safe : Safe 7 15 vertex
 unfolding vertex
-vertex-safe v p = cond-safe 7 15 (isTriple v) (each coordinate v) (unless false 12 v) (each-safe 7 15 coordinate coordinate-safe v p) (unless-safe 7 15 false 12 tt v p)
+vertex-safe v p = cond-safe 7 15 (isTriple v) (eachElement coordinate v) (unless false 12 v) (each-safe 7 15 coordinate coordinate-safe v p) (unless-safe 7 15 false 12 tt v p)
 
 shaped-safe : (d : ℕ) → Safe 7 15 (shaped d)
 unfolding shaped
 shaped-safe zero v p = unless-safe 7 15 (isIntegerValue v) 12 tt v p
 shaped-safe (suc d) v p = both 7 15 (unless (isArrayValue v) 12 v) (forEach (shaped d) (elements v)) (unless-safe 7 15 (isArrayValue v) 12 tt v p) (for-safe 7 15 (shaped d) (shaped-safe d) (elements v) (elements-placed p))
 
-near-safe : (n d : ℕ) → Safe 7 15 (near n d)
-unfolding near
-near-safe n zero v p = numeral-safe 7 15 13 (λ raw. isBelow n (integer raw)) tt v p
-near-safe n (suc d) v p = for-safe 7 15 (near n d) (near-safe n d) (elements v) (elements-placed p)
+ranged-safe : (n d : ℕ) → Safe 7 15 (ranged n d)
+unfolding ranged
+ranged-safe n zero v p = numeral-safe 7 15 13 (λ raw. isBelow n (integer raw)) tt v p
+ranged-safe n (suc d) v p = for-safe 7 15 (ranged n d) (ranged-safe n d) (elements v) (elements-placed p)
 
 two-safe : (c : Json → Check) → ((b : Json) → Safe 7 15 (c b)) → (bs vs : List Json) → All (Placed) vs → All (Among 7 15) (forBoth c bs vs)
 unfolding forBoth
@@ -278,68 +278,68 @@ matches-safe (suc d) b v p =
 
 -- ---- rules 7 to 14
 
-word-safe : (w : List ℕ) → Safe 7 15 (wordIs w)
-unfolding wordIs
-word-safe w = all-safe 7 15 (isString ∷ text 10 (same w) ∷ []) (string-safe, (text-safe 7 15 10 (same w) tt, tt))
+word-safe : (w : List ℕ) → Safe 7 15 (oneWord w)
+unfolding oneWord
+word-safe w = all-safe 7 15 (stringKind ∷ text 10 (same w) ∷ []) (string-safe, (text-safe 7 15 10 (same w) tt, tt))
 
 object-type-safe : Safe 7 15 objectType
 unfolding objectType
 object-type-safe =
-    all-safe 7 15 (isString ∷ text 10 isObjectType ∷ text 11 (λ w. not (isAdded w)) ∷ [])
+    all-safe 7 15 (stringKind ∷ text 10 isObjectType ∷ text 11 (λ w. not (isAdded w)) ∷ [])
     (string-safe, (text-safe 7 15 10 isObjectType tt, (text-safe 7 15 11 (λ w. not (isAdded w)) tt, tt)))
 
 geometry-type-safe : (object code : ℕ) → Safe 7 15 (geometryType object code)
 unfolding geometryType
 geometry-type-safe object code =
-    all-safe 7 15 (isString ∷ text 10 isGeometryType ∷ text 11 (λ w. not (is "GeometryInstance" w)) ∷ text 14 (λ w. eqb code 0 || isPermitted object code) ∷ [])
+    all-safe 7 15 (stringKind ∷ text 10 isGeometryType ∷ text 11 (λ w. not (is "GeometryInstance" w)) ∷ text 14 (λ w. eqb code 0 || isPermitted object code) ∷ [])
     (string-safe, (text-safe 7 15 10 isGeometryType tt, (text-safe 7 15 11 (λ w. not (is "GeometryInstance" w)) tt, (text-safe 7 15 14 (λ w. eqb code 0 || isPermitted object code) tt, tt))))
 
 lod-safe : Safe 7 15 lod
 unfolding lod
-lod-safe = all-safe 7 15 (isString ∷ text 10 isLod ∷ []) (string-safe, (text-safe 7 15 10 isLod tt, tt))
+lod-safe = all-safe 7 15 (stringKind ∷ text 10 isLod ∷ []) (string-safe, (text-safe 7 15 10 isLod tt, tt))
 
 surface-type-safe : Safe 7 15 surfaceType
 unfolding surfaceType
-surface-type-safe = all-safe 7 15 (isString ∷ text 10 isSurfaceType ∷ []) (string-safe, (text-safe 7 15 10 isSurfaceType tt, tt))
+surface-type-safe = all-safe 7 15 (stringKind ∷ text 10 isSurfaceType ∷ []) (string-safe, (text-safe 7 15 10 isSurfaceType tt, tt))
 
 boundary-safe : (n code : ℕ) → Safe 7 15 (boundary n code)
 unfolding boundary
 boundary-safe n code v p =
-    cond-safe 7 15 (eqb code 0) [] (shaped (depth code) v ++ near n (depth code) v) tt
-    (both 7 15 (shaped (depth code) v) (near n (depth code) v) (shaped-safe (depth code) v p) (near-safe n (depth code) v p))
+    cond-safe 7 15 (eqb code 0) [] (shaped (depth code) v ++ ranged n (depth code) v) tt
+    (both 7 15 (shaped (depth code) v) (ranged n (depth code) v) (shaped-safe (depth code) v p) (ranged-safe n (depth code) v p))
 
 boundaries-safe : (n code : ℕ) → Safe 7 15 (boundaries n code)
 unfolding boundaries
-boundaries-safe n code = all-safe 7 15 (isArray ∷ boundary n code ∷ []) (array-safe, (boundary-safe n code, tt))
+boundaries-safe n code = all-safe 7 15 (arrayKind ∷ boundary n code ∷ []) (array-safe, (boundary-safe n code, tt))
 
 surface-safe : Safe 7 15 surface
 unfolding surface
 surface-safe =
-    all-safe 7 15 (isObject ∷ needs ("type" ∷ []) ∷ at "type" surfaceType ∷ [])
+    all-safe 7 15 (objectKind ∷ needs ("type" ∷ []) ∷ at "type" surfaceType ∷ [])
     (object-safe, (needs-safe 7 15 tt ("type" ∷ []), (at-safe 7 15 "type" surfaceType surface-type-safe, tt)))
 
 surfaces-safe : Safe 7 15 surfaces
 unfolding surfaces
-surfaces-safe = all-safe 7 15 (isArray ∷ each surface ∷ []) (array-safe, (each-safe 7 15 surface surface-safe, tt))
+surfaces-safe = all-safe 7 15 (arrayKind ∷ eachElement surface ∷ []) (array-safe, (each-safe 7 15 surface surface-safe, tt))
 
 over-safe : (count code : ℕ) (b : Option Json) → Safe 7 15 (overBoundary count code b)
 unfolding overBoundary
 over-safe count code option.none v p = tt
 over-safe count code (some b) v p =
-    let first = cond (isNil (shaped (depth code) b)) (matches (valuesDepth code) b v) [] in
-    let second = near count (valuesDepth code) v in
+    let first = cond (isEmpty (shaped (depth code) b)) (matches (valuesDepth code) b v) [] in
+    let second = ranged count (valuesDepth code) v in
     cond-safe 7 15 (eqb code 0) [] (first ++ second) tt
-    (both 7 15 first second (cond-safe 7 15 (isNil (shaped (depth code) b)) (matches (valuesDepth code) b v) [] (matches-safe (valuesDepth code) b v p) tt) (near-safe count (valuesDepth code) v p))
+    (both 7 15 first second (cond-safe 7 15 (isEmpty (shaped (depth code) b)) (matches (valuesDepth code) b v) [] (matches-safe (valuesDepth code) b v p) tt) (ranged-safe count (valuesDepth code) v p))
 
 values-safe : (count code : ℕ) (b : Option Json) → Safe 7 15 (schema.values count code b)
 unfolding schema.values
-values-safe count code b = all-safe 7 15 (isArray ∷ overBoundary count code b ∷ []) (array-safe, (over-safe count code b, tt))
+values-safe count code b = all-safe 7 15 (arrayKind ∷ overBoundary count code b ∷ []) (array-safe, (over-safe count code b, tt))
 
 semantics-safe : (code : ℕ) (b : Option Json) → Safe 7 15 (semantics code b)
 unfolding semantics
 semantics-safe code b v =
     let n = countIn (find "surfaces" v) in
-    all-safe 7 15 (isObject ∷ needs ("surfaces" ∷ "values" ∷ []) ∷ at "surfaces" surfaces ∷ at "values" (schema.values n code b) ∷ [])
+    all-safe 7 15 (objectKind ∷ needs ("surfaces" ∷ "values" ∷ []) ∷ at "surfaces" surfaces ∷ at "values" (schema.values n code b) ∷ [])
     (object-safe, (needs-safe 7 15 tt ("surfaces" ∷ "values" ∷ []), (at-safe 7 15 "surfaces" surfaces surfaces-safe, (at-safe 7 15 "values" (schema.values n code b) (values-safe n code b), tt)))) v
 
 needs-lod-safe : Safe 7 15 needsLod
@@ -351,7 +351,7 @@ unfolding geometry
 geometry-safe n object v =
     let code = codeOf geometryWords (typeText v) in
     let b = find "boundaries" v in
-    all-safe 7 15 (isObject ∷ needs ("type" ∷ "boundaries" ∷ []) ∷ needsLod ∷ at "type" (geometryType object code) ∷ at "lod" lod ∷ at "boundaries" (boundaries n code) ∷ at "semantics" (semantics code b) ∷ []) (
+    all-safe 7 15 (objectKind ∷ needs ("type" ∷ "boundaries" ∷ []) ∷ needsLod ∷ at "type" (geometryType object code) ∷ at "lod" lod ∷ at "boundaries" (boundaries n code) ∷ at "semantics" (semantics code b) ∷ []) (
       object-safe,
       (
         needs-safe 7 15 tt ("type" ∷ "boundaries" ∷ []),
@@ -370,24 +370,24 @@ geometry-safe n object v =
 
 geometries-safe : (n object : ℕ) → Safe 7 15 (geometries n object)
 unfolding geometries
-geometries-safe n object = all-safe 7 15 (isArray ∷ each (geometry n object) ∷ []) (array-safe, (each-safe 7 15 (geometry n object) (geometry-safe n object), tt))
+geometries-safe n object = all-safe 7 15 (arrayKind ∷ eachElement (geometry n object) ∷ []) (array-safe, (each-safe 7 15 (geometry n object) (geometry-safe n object), tt))
 
 ids-safe : Safe 7 15 schema.links
 unfolding schema.links
-ids-safe = all-safe 7 15 (isArray ∷ each isString ∷ []) (array-safe, (each-safe 7 15 isString string-safe, tt))
+ids-safe = all-safe 7 15 (arrayKind ∷ eachElement stringKind ∷ []) (array-safe, (each-safe 7 15 stringKind string-safe, tt))
 
 city-object-safe : (n : ℕ) → Safe 7 15 (cityObject n)
 unfolding cityObject
 city-object-safe n v =
     let code = codeOf objectWords (typeText v) in
-    all-safe 7 15 (isObject ∷ needs ("type" ∷ []) ∷ at "type" objectType ∷ at "attributes" isObject ∷ at "children" schema.links ∷ at "parents" schema.links ∷ at "geometry" (geometries n code) ∷ []) (
+    all-safe 7 15 (objectKind ∷ needs ("type" ∷ []) ∷ at "type" objectType ∷ at "attributes" objectKind ∷ at "children" schema.links ∷ at "parents" schema.links ∷ at "geometry" (geometries n code) ∷ []) (
       object-safe,
       (
         needs-safe 7 15 tt ("type" ∷ []),
         (
           at-safe 7 15 "type" objectType object-type-safe,
           (
-            at-safe 7 15 "attributes" isObject object-safe,
+            at-safe 7 15 "attributes" objectKind object-safe,
             (
               at-safe 7 15 "children" schema.links ids-safe,
               (at-safe 7 15 "parents" schema.links ids-safe, (at-safe 7 15 "geometry" (geometries n code) (geometries-safe n code), tt)),
@@ -407,35 +407,35 @@ unfolding nameFault
 name-fault-small [] a = tt
 name-fault-small (m ∷ ms) a = (small-fault 7 15 9 (m .0 .place) tt (omega (arith, a .0 .name)), tt)
 
-few-safe : Safe 7 15 notTooMany
-unfolding notTooMany
+few-safe : Safe 7 15 objectLimit
+unfolding objectLimit
 few-safe v p = name-fault-small (drop 1024 (members v)) (drop-placed 1024 (members v) (members-placed p))
 
 city-objects-safe : (n : ℕ) → Safe 7 15 (cityObjects n)
 unfolding cityObjects
-city-objects-safe n = all-safe 7 15 (isObject ∷ notTooMany ∷ eachMember (cityObject n) ∷ []) (object-safe, (few-safe, (each-member-safe 7 15 (cityObject n) (city-object-safe n), tt)))
+city-objects-safe n = all-safe 7 15 (objectKind ∷ objectLimit ∷ eachMember (cityObject n) ∷ []) (object-safe, (few-safe, (each-member-safe 7 15 (cityObject n) (city-object-safe n), tt)))
 
 three-pairs-safe : Safe 7 15 threePairs
 unfolding threePairs
 three-pairs-safe =
-    all-safe 7 15 (isArray ∷ each isNumber ∷ holdsThree ∷ each inPairRange ∷ []) (array-safe, (each-safe 7 15 isNumber number-safe, (three-safe, (each-safe 7 15 inPairRange pair-safe, tt))))
+    all-safe 7 15 (arrayKind ∷ eachElement numberKind ∷ threeEntries ∷ eachElement pairRange ∷ []) (array-safe, (each-safe 7 15 numberKind number-safe, (three-safe, (each-safe 7 15 pairRange pair-safe, tt))))
 
 transform-safe : Safe 7 15 transform
 unfolding transform
 transform-safe =
-    all-safe 7 15 (isObject ∷ needs ("scale" ∷ "translate" ∷ []) ∷ at "scale" threePairs ∷ at "translate" threePairs ∷ [])
+    all-safe 7 15 (objectKind ∷ needs ("scale" ∷ "translate" ∷ []) ∷ at "scale" threePairs ∷ at "translate" threePairs ∷ [])
     (object-safe, (needs-safe 7 15 tt ("scale" ∷ "translate" ∷ []), (at-safe 7 15 "scale" threePairs three-pairs-safe, (at-safe 7 15 "translate" threePairs three-pairs-safe, tt))))
 
 vertices-safe : Safe 7 15 vertices
 unfolding vertices
-vertices-safe = all-safe 7 15 (isArray ∷ each vertex ∷ []) (array-safe, (each-safe 7 15 vertex vertex-safe, tt))
+vertices-safe = all-safe 7 15 (arrayKind ∷ eachElement vertex ∷ []) (array-safe, (each-safe 7 15 vertex vertex-safe, tt))
 
 pub root-safe : Safe 7 15 cityJson
 unfolding cityJson word
 root-safe v =
     let n = countIn (find "vertices" v) in
     let names : List String = "type" ∷ "version" ∷ "transform" ∷ "CityObjects" ∷ "vertices" ∷ [] in
-    all-safe 7 15 (isObject ∷ needs names ∷ at "type" (word "CityJSON") ∷ at "version" (word "2.0") ∷ at "transform" transform ∷ at "CityObjects" (cityObjects n) ∷ at "vertices" vertices ∷ []) (
+    all-safe 7 15 (objectKind ∷ needs names ∷ at "type" (word "CityJSON") ∷ at "version" (word "2.0") ∷ at "transform" transform ∷ at "CityObjects" (cityObjects n) ∷ at "vertices" vertices ∷ []) (
       object-safe,
       (
         needs-safe 7 15 tt names,
@@ -476,8 +476,8 @@ listed-placed k {v} p = of (find k v) (find-placed k p)
     of option.none q = tt
     of (some w) q = elements-placed q
 
-parent-safe : Safe 15 18 hasParent
-unfolding hasParent
+parent-safe : Safe 15 18 parentLink
+unfolding parentLink
 parent-safe v p = unless-safe 15 18 (not (isSecondLevel (codeOf objectWords (typeText v)) && isEmpty (listedIn "parents" v))) 16 tt v p
 
 object-links-small : (objects : List Member) (m : Member) → PlacedMember m → All (Among 15 18) (linksOf objects m)
@@ -486,7 +486,7 @@ object-links-small objects m p =
     let group = is "CityObjectGroup" (typeText (m .1)) in
     let a = linksFrom objects "parents" (nameOf m) group [] (listedIn "children" (m .1)) in
     let b = linksFrom objects "children" (nameOf m) false [] (listedIn "parents" (m .1)) in
-    both 15 18 (a ++ b) (hasParent (m .1))
+    both 15 18 (a ++ b) (parentLink (m .1))
     (both 15 18 a b
     (links-small objects "parents" (nameOf m) group [] (listedIn "children" (m .1)) (listed-placed "children" (p .value)))
     (links-small objects "children" (nameOf m) false [] (listedIn "parents" (m .1)) (listed-placed "parents" (p .value))))

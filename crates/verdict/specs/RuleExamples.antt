@@ -1,14 +1,14 @@
--- Rules 7 to 17 of document 01, by computation: examples of each, those at its bounds among them. The expected verdicts are worked out from document 01. Assumes nothing.
+-- Rules 7 to 17 of document 01, by computation: examples of each, those at its bounds among them. The expected verdicts are worked out from document 01.
 use Prim.Native.Nat.{ℕ, zero, suc, _+_, _*_, _/_, _%_}
 use Prim.Native.String.{String}
 use mathlib.Core.Path.{_≡_, refl}
 use mathlib.Core.List.{List, [], _∷_, _++_, map}
 use lib.ListN.{length}
 use Rattle.utf8.specs.Ascii.{ascii}
-use Rattle.json.specs.Tree.{Json, num, str, arr, obj, none, _▸_, Members, empty, member}
+use Rattle.json.specs.Tree.{Json, num, str, arr, obj, noItems, _▸_, Members, empty, member}
 use Rattle.json.specs.Machine.{reads, read}
 use Rattle.everywhere.specs.Everywhere.{rule5}
-use Rattle.nodes.specs.Faults.{fault, least, none as top}
+use Rattle.nodes.specs.Faults.{fault, least, noFault as top}
 use Rattle.fields.specs.Fields.{objectsOf}
 use Rattle.schema.specs.Schema.{cityJson}
 use Rattle.links.specs.Links.{linkFaults}
@@ -392,7 +392,7 @@ roadMembers (suc n) i =
 
 -- three equal numbers of one digit, as an array that starts at p
 unfoldable triple : ℕ → ℕ → Json
-triple digit p = arr p (p + 7) (num (p + 1) (p + 2) (digit ∷ []) ▸ num (p + 3) (p + 4) (digit ∷ []) ▸ num (p + 5) (p + 6) (digit ∷ []) ▸ none)
+triple digit p = arr p (p + 7) (num (p + 1) (p + 2) (digit ∷ []) ▸ num (p + 3) (p + 4) (digit ∷ []) ▸ num (p + 5) (p + 6) (digit ∷ []) ▸ noItems)
 
 -- the tree of the text of `withObjects` with so many roads
 unfoldable manyRoads : ℕ → Json
@@ -404,7 +404,7 @@ manyRoads n =
     (member (record { place = 35; end = 46; raw = ascii "transform" }) (obj 47 84
     (member (record { place = 48; end = 55; raw = ascii "scale" }) (triple 49 56)
     (member (record { place = 64; end = 75; raw = ascii "translate" }) (triple 48 76) empty)))
-    (member (record { place = 85; end = 95; raw = ascii "vertices" }) (arr 96 105 (triple 48 97 ▸ none))
+    (member (record { place = 85; end = 95; raw = ascii "vertices" }) (arr 96 105 (triple 48 97 ▸ noItems))
     (member (record { place = 106; end = 119; raw = ascii "CityObjects" }) (obj 120 (23 * n + 121) (roadMembers n 0)) empty)))))
 
 -- a text with three roads is read as that tree

@@ -1,4 +1,4 @@
--- The verdict of a text (document 01, section "Verdict and place"). Assumes nothing: these are definitions.
+-- The verdict of a text (document 01, section "Verdict and place").
 use Prim.Native.Nat.{ℕ, _+_}
 use mathlib.Core.Bool.{true, false, cond}
 use mathlib.Core.List.{List, [], _++_, map}
@@ -8,7 +8,7 @@ use Rattle.utf8.specs.Utf8.{wholeLength}
 use Rattle.json.specs.Tree.{Json}
 use Rattle.json.specs.Machine.{Outcome, reads, bad, tooDeep, read}
 use Rattle.everywhere.specs.Everywhere.{rule5, rule6}
-use Rattle.nodes.specs.Faults.{fault, ruleOf, placeIn, least, none}
+use Rattle.nodes.specs.Faults.{fault, ruleOf, placeIn, least, noFault}
 use Rattle.fields.specs.Fields.{objectsOf}
 use Rattle.schema.specs.Schema.{cityJson}
 use Rattle.links.specs.Links.{linkFaults}
@@ -26,11 +26,11 @@ faults v = map (fault 5) (rule5 v) ++ map (fault 6) (rule6 v) ++ cityJson v ++ l
 -- "The lowest broken number is given, and for it the smallest place"
 unfoldable pub given : ℕ → ℕ → Verdict
 unfolding ruleOf placeIn
-given objects f = cond (ltb f none) (refused (ruleOf f) (placeIn f)) (accepted objects)
+given objects f = cond (ltb f noFault) (refused (ruleOf f) (placeIn f)) (accepted objects)
 
 unfoldable pub judged : Json → Verdict
 unfolding given least faults objectsOf
-judged v = given (length (objectsOf v)) (least none (faults v))
+judged v = given (length (objectsOf v)) (least noFault (faults v))
 
 -- rules 3 and 4
 unfoldable pub parsed : Outcome → Verdict

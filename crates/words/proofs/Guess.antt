@@ -1,4 +1,4 @@
--- A word that is looked for at a guessed place: if the string is that word, its code is known. Assumes nothing.
+-- A word that is looked for at a guessed place: if the string is that word, its code is known.
 use Prim.Native.Nat.{ℕ, _+_, _<_}
 use Prim.Native.String.{String}
 use native.Mathlib.Omega.{arith}

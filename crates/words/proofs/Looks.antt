@@ -1,4 +1,4 @@
--- What the length and the first byte of a string tell of `looksSecondLevel`. Assumes nothing.
+-- What the length and the first byte of a string tell of `looksSecondLevel`.
 use Prim.Native.Nat.{ℕ, _-_, _≤_, _<_}
 use mathlib.Core.Path.{_≡_}
 use mathlib.Core.Bool.{true, false}

@@ -1,4 +1,4 @@
--- The tables of depths and of permitted geometries. Assumes nothing.
+-- The tables of depths and of permitted geometries.
 use Prim.Native.Nat.{ℕ, suc, _-_, _/_, _^_, _≤_, _<_}
 use native.Mathlib.Omega.{arith}
 use mathlib.Core.Path.{_≡_, refl, sym, subst}
@@ -11,7 +11,7 @@ use borrow.Author.Tests.{ne-eqb, ltb-true}
 use Rattle.words.specs.Words.{depth, valuesDepth, Row, permittedRows, permittedIn, isPermitted, has, objectCodes}
 use Rattle.utf8.specs.Laws.{both-left, both-right}
 use Rattle.words.specs.Tables.{bitAt, tabled}
-use Rattle.utf8.specs.Finite.{each, each-below, agree, agree-equal}
+use Rattle.utf8.specs.Finite.{allFrom, each-below, agree, agree-equal}
 
 -- no depth is listed past the codes
 past : (f : ℕ → ℕ) → ((m : ℕ) → 0 ≡ f (suc (suc (suc (suc (suc (suc (suc (suc m))))))))) → (code : ℕ) → 8 ≤ code → 0 ≡ f code
@@ -81,4 +81,4 @@ module _ (object : ℕ) where
 -- a table has the rule's answers
 pub permitted-at : (rows : List ℕ) (object code : ℕ) → tabled rows ≡ true → object < 34 → code < 8 → eqb (bitAnd (getD rows object 0 / 2 ^ code) 1) 1 ≡ isPermitted object code
 unfolding tabled bitAt
-permitted-at rows object code e h l = agree-equal _ _ (each-below (λ c. agree (bitAt rows object c) (isPermitted object c)) 8 code (each-below (λ o. each (λ c. agree (bitAt rows o c) (isPermitted o c)) 0 8) 34 object e h) l)
+permitted-at rows object code e h l = agree-equal _ _ (each-below (λ c. agree (bitAt rows object c) (isPermitted object c)) 8 code (each-below (λ o. allFrom (λ c. agree (bitAt rows o c) (isPermitted o c)) 0 8) 34 object e h) l)

@@ -1,4 +1,4 @@
--- What `search` is handed to close what the functions leave. Assumes nothing.
+-- What `search` is handed to close what the functions leave.
 use borrow.Author.Needs.{needs}
 use Rattle.words.proofs.Scan.{scan-start, scan-end, scan-low, scan-high, scan-found, scan-more}
 use Rattle.words.proofs.Guess.{guess-right}

@@ -1,4 +1,4 @@
--- The scan of a table of words, and the tables of the three lists. Assumes nothing.
+-- The scan of a table of words, and the tables of the three lists.
 use Prim.Native.Nat.{ℕ, _+_, _-_, _≤_, _<_}
 use Prim.Native.String.{String}
 use native.Mathlib.Omega.{arith}

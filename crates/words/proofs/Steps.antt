@@ -1,4 +1,4 @@
--- What the steps of a cursor tell of the string: whether it begins with a plus sign, and whether it is a level of detail. Assumes nothing.
+-- What the steps of a cursor tell of the string: whether it begins with a plus sign, and whether it is a level of detail.
 use Prim.Native.Nat.{ℕ, _≤_}
 use mathlib.Core.Path.{_≡_, refl, sym, _∙_}
 use mathlib.Core.Bool.{Bool, true, false, not}

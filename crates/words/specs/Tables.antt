@@ -1,5 +1,5 @@
 -- What the functions are asked and tell besides the codes: the number of the first of some words that a text is, where the words stand one after the other in a string of bytes; a table of the permitted geometries; and a look at a string before it is compared with the types.
--- Assumes nothing: these are definitions.
+--
 use Prim.Native.Nat.{ℕ, _+_, _-_, _/_, _^_}
 use Prim.Native.String.{String}
 use mathlib.Core.Bool.{Bool, true, cond, _&&_, _||_}
@@ -8,7 +8,7 @@ use lib.ListN.{take, drop, getD}
 use lib.Bits.{bitAnd}
 use lib.Dec.{eqb, leb}
 use Rattle.utf8.specs.Ascii.{ascii}
-use Rattle.utf8.specs.Finite.{each, agree}
+use Rattle.utf8.specs.Finite.{allFrom, agree}
 use Rattle.utf8.specs.Utf8.{same}
 use Rattle.words.specs.Words.{isPermitted}
 
@@ -41,7 +41,7 @@ bitAt rows o c = eqb (bitAnd (getD rows o 0 / 2 ^ c) 1) 1
 -- does bit c of the number at o tell whether an object of code o may have a geometry of code c, for each o below 34 and each c below 8?
 unfoldable pub tabled : List ℕ → Bool
 unfolding bitAt isPermitted
-tabled rows = each (λ o. each (λ c. agree (bitAt rows o c) (isPermitted o c)) 0 8) 0 34
+tabled rows = allFrom (λ o. allFrom (λ c. agree (bitAt rows o c) (isPermitted o c)) 0 8) 0 34
 
 -- may the string of the text x from at up to end be a type of the second level? Those have at least ten bytes and begin with B or T; an escape may stand for the first byte.
 unfoldable pub looksSecondLevel : List ℕ → ℕ → ℕ → Bool

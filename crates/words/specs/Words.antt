@@ -1,4 +1,4 @@
--- The words of document 01, section "Types, depths and codes", once and in its order. Assumes nothing: these are definitions.
+-- The words of document 01, section "Types, depths and codes", once and in its order.
 use Prim.Native.Nat.{ℕ, _+_}
 use Prim.Native.String.{String}
 use mathlib.Core.Bool.{Bool, false, cond, _&&_, _||_}

@@ -1,4 +1,4 @@
--- What the stores of the functions leave: zeroes, numbers, strings. Assumes nothing.
+-- What the stores of the functions leave: zeroes, numbers, strings.
 use mathlib.Core.Path.{_≡_, refl, sym, ap, _∙_}
 use mathlib.Core.List.{List, _++_, append-nil}
 use Prim.Native.Nat.{ℕ, _+_, _*_, _/_, _%_, _^_, _≤_, _<_}
@@ -7,7 +7,7 @@ use native.Mathlib.Numerals.{add-one}
 use lib.ListN.{length, drop, set, replicate, length-set}
 use lib.Seq.{sets-eq, drop-length}
 use borrow.Author.Fill.{fill-more}
-use Rattle.model.specs.Code.{le}
+use Rattle.utf8.specs.Bytes.{le}
 use Rattle.model.specs.Weigh.{length-le}
 use Rattle.strings.specs.Spans.{Span, decodeAt, Copied}
 use Rattle.strings.specs.Laws.{decodeAt-short}

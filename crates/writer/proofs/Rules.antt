@@ -1,4 +1,4 @@
--- What `search` is handed to close what the functions leave. Assumes nothing.
+-- What `search` is handed to close what the functions leave.
 use borrow.Author.Needs.{needs}
 use Rattle.writer.specs.Laws.{headed}
 use Rattle.writer.proofs.Fills.{cleared-start, cleared-turn, cleared-all, size-le, no-room, put-two, second, put-four, put-eight, copied, short}

@@ -1,4 +1,4 @@
--- How writers go one after the other, numbers in bytes, and a whole sheet. Assumes nothing.
+-- How writers go one after the other, numbers in bytes, and a whole sheet.
 use mathlib.Core.Path.{_≡_, refl, sym, ap, _∙_}
 use mathlib.Core.List.{List, [], _∷_, _++_}
 use Prim.Native.Nat.{ℕ, zero, suc, _+_, _*_, _-_, _/_, _%_, _^_, _≤_, _<_}
@@ -8,7 +8,8 @@ use lib.ListN.{length, drop, set, replicate, length-append, length-replicate}
 use lib.Pow.{pow-add}
 use lib.Seq.{sets, set-comm, sets-eq}
 use lib.IntN.{ℤ, pos, negsuc}
-use Rattle.model.specs.Code.{le, signed, Holds}
+use Rattle.utf8.specs.Bytes.{le}
+use Rattle.model.specs.Code.{signed, Holds}
 use Rattle.model.specs.Model.{layRec}
 use Rattle.model.specs.Weigh.{length-le, length-rec}
 use Rattle.writer.specs.Writes.{Writes, Skips, Closes, twos}

@@ -3,7 +3,7 @@ ghost use Prim.Native.Nat.{_+_, _^_, _≤_, _<_};
 ghost use mathlib.Core.Path.{_≡_};
 ghost use lib.ListN.{length, replicate};
 ghost use Rattle.strings.specs.Spans.{Span, decodeAt};
-ghost use Rattle.model.specs.Code.{le};
+ghost use Rattle.utf8.specs.Bytes.{le};
 ghost use Rattle.writer.specs.Writes.{Puts, Skips, Closes, twos};
 
 // Zeroes the whole sheet.

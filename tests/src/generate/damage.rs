@@ -2,7 +2,7 @@
 //! that the refusal is expected to name.
 
 use super::draft::{anything, draft, Body, Draft, Entry, Role};
-use super::quarter::{fresh_id, geometry, quarter};
+use super::city_model::{city_model, fresh_id, geometry};
 use super::random::Random;
 use super::spelling::{spell, Style};
 use crate::model::{Model, Object};
@@ -13,7 +13,7 @@ use crate::{Refusal, TEXT_LIMIT};
 /// if that is a value or a name.
 pub fn damaged(rule: u8, random: &mut Random) -> (Vec<u8>, Refusal, Option<Role>) {
     loop {
-        let mut model = quarter(random, 6);
+        let mut model = city_model(random, 6);
         let bytes = |(text, place)| Some((text, place, None));
         let found = match rule {
             1 => bytes(too_long(&model, random)),
@@ -69,7 +69,7 @@ pub fn targets(rule: u8) -> Vec<Role> {
 
 /// A text with several damages; what it answers is not known beforehand.
 pub fn damaged_often(random: &mut Random) -> Vec<u8> {
-    let mut model = quarter(random, 6);
+    let mut model = city_model(random, 6);
     let count = random.between(1, 3);
     let rules: Vec<u8> = (0..count).map(|_| random.between(5, 17) as u8).collect();
     for rule in rules.iter().filter(|rule| **rule >= 14) {

@@ -1,6 +1,6 @@
 //! Texts at the limits of length, depth and count.
 
-use crate::samples::{town, MINIMAL};
+use crate::samples::{document, MINIMAL};
 use crate::TEXT_LIMIT;
 
 /// A text at a limit, with a few words that say what it is and the rule it breaks, 0 for
@@ -90,7 +90,7 @@ fn texts() -> Vec<(u8, &'static str, Vec<u8>)> {
         (
             0,
             "vertices",
-            town("", &repeated("[0,0,0]", 8_100)).into_bytes(),
+            document("", &repeated("[0,0,0]", 8_100)).into_bytes(),
         ),
         (13, "vertices out of range", out_of_range(8_000)),
         (0, "1,024 objects", objects(1_024)),
@@ -111,7 +111,7 @@ fn texts() -> Vec<(u8, &'static str, Vec<u8>)> {
         (
             0,
             "a long ID",
-            town(
+            document(
                 &format!(r#""{}":{{"type":"Road"}}"#, "i".repeat(65_000)),
                 "",
             )
@@ -165,13 +165,13 @@ fn repeated_at_the_end(count: usize) -> String {
 
 fn out_of_range(count: usize) -> Vec<u8> {
     let vertices = format!("{},[0,0,2147483648]", repeated("[0,0,0]", count));
-    town("", &vertices).into_bytes()
+    document("", &vertices).into_bytes()
 }
 
 fn objects(count: usize) -> Vec<u8> {
     let object = |number| format!(r#""{number}":{{"type":"Road"}}"#);
     let list: Vec<String> = (0..count).map(object).collect();
-    town(&list.join(","), "").into_bytes()
+    document(&list.join(","), "").into_bytes()
 }
 
 /// One object with 1,000 children, which list it as parent or list none.
@@ -181,12 +181,12 @@ fn family(word: &str, returned: bool) -> Vec<u8> {
     let child = |id: &String| format!(r#"{id}:{{"type":"Road"{parents}}}"#);
     let children: Vec<String> = ids.iter().map(child).collect();
     let parent = format!(r#""p":{{"type":"{word}","children":[{}]}}"#, ids.join(","));
-    town(&format!("{parent},{}", children.join(",")), "").into_bytes()
+    document(&format!("{parent},{}", children.join(",")), "").into_bytes()
 }
 
 fn with_geometries(geometries: &str) -> Vec<u8> {
     let object = format!(r#""a":{{"type":"Road","geometry":[{geometries}]}}"#);
-    town(&object, "[0,0,0]").into_bytes()
+    document(&object, "[0,0,0]").into_bytes()
 }
 
 fn with_points(boundary: &str) -> Vec<u8> {

@@ -5,7 +5,7 @@ mod coverage;
 mod damage;
 mod draft;
 mod large;
-mod quarter;
+mod city_model;
 mod random;
 mod spelling;
 
@@ -53,7 +53,7 @@ pub fn case(seed: u64) -> Case {
         }
         75..=87 => open(damage::damaged_often(random)),
         _ => {
-            let (_, mut text) = quarter_text(random);
+            let (_, mut text) = model_text(random);
             damage::damage_bytes(&mut text, random);
             open(text)
         }
@@ -72,7 +72,7 @@ pub fn refused(rule: u8, random: &mut Random) -> Case {
 
 /// An accepted text and its model.
 pub fn accepted(random: &mut Random) -> Case {
-    let (model, text) = quarter_text(random);
+    let (model, text) = model_text(random);
     Case {
         text,
         expected: Expected::Model(model),
@@ -82,7 +82,7 @@ pub fn accepted(random: &mut Random) -> Case {
 
 /// An accepted text of exactly the greatest length.
 fn at_the_limit(random: &mut Random) -> Case {
-    let (model, mut text) = quarter_text(random);
+    let (model, mut text) = model_text(random);
     text.resize(TEXT_LIMIT, b' ');
     Case {
         text,
@@ -99,10 +99,10 @@ fn open(text: Vec<u8>) -> Case {
     }
 }
 
-fn quarter_text(random: &mut Random) -> (Model, Vec<u8>) {
+fn model_text(random: &mut Random) -> (Model, Vec<u8>) {
     loop {
         let most = *random.pick(&[1, 3, 6, 6, 12]);
-        let model = quarter::quarter(random, most);
+        let model = city_model::city_model(random, most);
         let text = write(&model, random);
         if text.len() <= TEXT_LIMIT {
             return (model, text);
@@ -112,7 +112,7 @@ fn quarter_text(random: &mut Random) -> (Model, Vec<u8>) {
 
 /// A model that keeps rules 9 to 17.
 pub fn model(random: &mut Random) -> Model {
-    quarter_text(random).0
+    model_text(random).0
 }
 
 /// A text of the model, in a random spelling. Two texts of one model are alike up to empty
@@ -132,7 +132,7 @@ pub fn write_plain(model: &Model, random: &mut Random) -> Vec<u8> {
 /// A model that differs from the given one in one detail and keeps rules 9 to 17.
 pub fn changed(model: &Model, random: &mut Random) -> Model {
     for _ in 0..10_000 {
-        let changed = quarter::change(model, random);
+        let changed = city_model::change(model, random);
         if changed != *model && read(&write_plain(&changed, random)).is_ok() {
             return changed;
         }

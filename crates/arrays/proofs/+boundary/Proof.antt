@@ -1,4 +1,4 @@
--- `arrays::boundary` meets its contract. The measure is the depth. Assumes nothing.
+-- `arrays::boundary` meets its contract. The measure is the depth.
 use Prim.Native.Nat.{ℕ, _-_, _<_}
 use native.Mathlib.Omega.{arith}
 use mathlib.Core.Logic.{⊎-elim}

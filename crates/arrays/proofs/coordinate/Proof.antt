@@ -1,4 +1,4 @@
--- `arrays::coordinate` meets its contract. Assumes nothing.
+-- `arrays::coordinate` meets its contract.
 use Rattle.arrays.proofs.Rules.{arrays}
 use Rattle.arrays.proofs.coordinate.Statement.{statement}
 use Rattle.arrays.proofs.coordinate.Tie as tie

@@ -1,4 +1,4 @@
--- `arrays::index` meets its contract. Assumes nothing.
+-- `arrays::index` meets its contract.
 use Rattle.arrays.proofs.Rules.{arrays}
 use Rattle.arrays.proofs.index.Statement.{statement}
 use Rattle.arrays.proofs.index.Tie as tie

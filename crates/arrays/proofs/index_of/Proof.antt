@@ -1,4 +1,4 @@
--- `arrays::index_of` meets its contract. Assumes nothing.
+-- `arrays::index_of` meets its contract.
 use Rattle.arrays.proofs.Rules.{arrays}
 use Rattle.arrays.proofs.index_of.Statement.{statement}
 use Rattle.arrays.proofs.index_of.Tie as tie

@@ -1,4 +1,4 @@
--- `arrays::pairs` meets its contract. Assumes nothing.
+-- `arrays::pairs` meets its contract.
 use Prim.Native.Nat.{_-_}
 use Rattle.arrays.specs.Laws.{Laying, laying-none, laying-room, laying-done}
 use Rattle.arrays.proofs.Nodes.{triple-wrote}

@@ -1,4 +1,4 @@
--- `arrays::value` meets its contract. Assumes nothing.
+-- `arrays::value` meets its contract.
 use Rattle.arrays.proofs.Rules.{arrays}
 use Rattle.arrays.proofs.value.Statement.{statement}
 use Rattle.arrays.proofs.value.Tie as tie

@@ -1,4 +1,4 @@
--- `arrays::vertices` meets its contract. Assumes nothing.
+-- `arrays::vertices` meets its contract.
 use Prim.Native.Nat.{_-_}
 use Rattle.model.specs.Code.{signed}
 use Rattle.model.specs.Model.{layThree}

@@ -1,4 +1,4 @@
--- `everywhere::chain_at` meets its contract. Assumes nothing.
+-- `everywhere::chain_at` meets its contract.
 use Rattle.everywhere.proofs.Links.{chain-none, chain-found, links}
 use Rattle.everywhere.proofs.chain_at.Statement.{statement}
 use Rattle.everywhere.proofs.chain_at.Tie as tie

@@ -1,4 +1,4 @@
--- `everywhere::chain_of` meets its contract. Assumes nothing.
+-- `everywhere::chain_of` meets its contract.
 use Rattle.everywhere.proofs.Hashes.{hashes}
 use Rattle.everywhere.proofs.chain_of.Statement.{statement}
 use Rattle.everywhere.proofs.chain_of.Tie as tie

@@ -1,4 +1,4 @@
--- `everywhere::chained_in` meets its contract. Assumes nothing.
+-- `everywhere::chained_in` meets its contract.
 use Prim.Native.Nat.{_-_}
 use native.Mathlib.Omega.{arith}
 use Rattle.nodes.specs.Walks.{walk-room}

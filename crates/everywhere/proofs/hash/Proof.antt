@@ -1,4 +1,4 @@
--- `everywhere::hash` meets its contract. The loop: the number of what is left of the string, after the bytes so far, is that of all. Assumes nothing.
+-- `everywhere::hash` meets its contract. The loop: the number of what is left of the string, after the bytes so far, is that of all.
 use Prim.Native.Nat.{_-_}
 use Rattle.strings.specs.Spans.{Span, decodeAt}
 use Rattle.everywhere.specs.Chains.{hashFrom}

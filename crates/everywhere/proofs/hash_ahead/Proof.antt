@@ -1,4 +1,4 @@
--- `everywhere::hash_ahead` meets its contract. The loop: the number of what the cursor has ahead, after the bytes so far, is that of all. Assumes nothing.
+-- `everywhere::hash_ahead` meets its contract. The loop: the number of what the cursor has ahead, after the bytes so far, is that of all.
 use Rattle.strings.specs.Spans.{Span, ahead, away}
 use Rattle.everywhere.specs.Chains.{hashFrom}
 use Rattle.everywhere.proofs.Hashes.{Hashing, hashes}

@@ -1,4 +1,4 @@
--- `everywhere::in_chain` meets its contract. Assumes nothing.
+-- `everywhere::in_chain` meets its contract.
 use native.Mathlib.Omega.{arith}
 use Rattle.nodes.specs.Walks.{string-fits}
 use Rattle.everywhere.proofs.Links.{Follows, follow-fits, follow-again, follows}

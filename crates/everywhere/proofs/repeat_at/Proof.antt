@@ -1,4 +1,4 @@
--- `everywhere::repeat_at` meets its contract. Assumes nothing.
+-- `everywhere::repeat_at` meets its contract.
 use Rattle.everywhere.proofs.Rule6.{names}
 use Rattle.everywhere.proofs.repeat_at.Statement.{statement}
 use Rattle.everywhere.proofs.repeat_at.Tie as tie

@@ -1,4 +1,4 @@
--- `everywhere::repeated` meets its contract. Assumes nothing.
+-- `everywhere::repeated` meets its contract.
 use Prim.Native.Nat.{ℕ, _-_}
 use mathlib.Core.Path.{_≡_}
 use native.Mathlib.Omega.{arith}

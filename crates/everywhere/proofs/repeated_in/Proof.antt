@@ -1,4 +1,4 @@
--- `everywhere::repeated_in` meets its contract. Assumes nothing.
+-- `everywhere::repeated_in` meets its contract.
 use Prim.Native.Nat.{_-_, _≤_}
 use mathlib.Core.Path.{_≡_}
 use native.Mathlib.Omega.{arith}

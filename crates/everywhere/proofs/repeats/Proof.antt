@@ -1,4 +1,4 @@
--- `everywhere::repeats` meets its contract. Assumes nothing.
+-- `everywhere::repeats` meets its contract.
 use Prim.Native.Nat.{_-_}
 use mathlib.Core.Logic.{⊎-elim}
 use native.Mathlib.Omega.{arith}

@@ -1,4 +1,4 @@
--- `everywhere::unpaired` meets its contract. Assumes nothing.
+-- `everywhere::unpaired` meets its contract.
 use Prim.Native.Nat.{_-_}
 use native.Mathlib.Omega.{arith}
 use Rattle.everywhere.specs.Parts.{own5}

@@ -1,4 +1,4 @@
--- `everywhere::unpaired_at` meets its contract. Assumes nothing.
+-- `everywhere::unpaired_at` meets its contract.
 use native.Mathlib.Omega.{arith}
 use Rattle.everywhere.proofs.Rule5.{any-fits, rule5s}
 use Rattle.everywhere.proofs.unpaired_at.Statement.{statement}

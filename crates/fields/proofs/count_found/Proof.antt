@@ -1,4 +1,4 @@
--- `fields::count_found` meets its contract. Assumes nothing.
+-- `fields::count_found` meets its contract.
 use Rattle.fields.proofs.Rules.{fields}
 use Rattle.fields.proofs.count_found.Statement.{statement}
 use Rattle.fields.proofs.count_found.Tie as tie

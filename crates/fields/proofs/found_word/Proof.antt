@@ -1,4 +1,4 @@
--- `fields::found_word` meets its contract. Assumes nothing.
+-- `fields::found_word` meets its contract.
 use Rattle.fields.proofs.Rules.{fields, word-nothing, word-at}
 use Rattle.fields.proofs.found_word.Statement.{statement}
 use Rattle.fields.proofs.found_word.Tie as tie

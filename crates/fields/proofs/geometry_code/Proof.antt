@@ -1,4 +1,4 @@
--- `fields::geometry_code` meets its contract. Assumes nothing.
+-- `fields::geometry_code` meets its contract.
 use Rattle.fields.proofs.Rules.{fields}
 use Rattle.fields.proofs.geometry_code.Statement.{statement}
 use Rattle.fields.proofs.geometry_code.Tie as tie

@@ -1,4 +1,4 @@
--- `fields::is_word` meets its contract. Assumes nothing.
+-- `fields::is_word` meets its contract.
 use Rattle.fields.specs.Laws.{string-node}
 use Rattle.fields.proofs.Rules.{fields, is-other, is-text}
 use Rattle.fields.proofs.is_word.Statement.{statement}

@@ -1,4 +1,4 @@
--- `fields::object_code` meets its contract. Assumes nothing.
+-- `fields::object_code` meets its contract.
 use Rattle.fields.proofs.Rules.{fields}
 use Rattle.fields.proofs.object_code.Statement.{statement}
 use Rattle.fields.proofs.object_code.Tie as tie

@@ -1,4 +1,4 @@
--- `fields::text_from` meets its contract. Assumes nothing.
+-- `fields::text_from` meets its contract.
 use native.Mathlib.Omega.{arith}
 use Rattle.fields.specs.Laws.{string-fits}
 use Rattle.fields.proofs.Rules.{fields}

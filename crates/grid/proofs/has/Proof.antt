@@ -1,4 +1,4 @@
--- `grid::has` meets its contract. Assumes nothing.
+-- `grid::has` meets its contract.
 use Rattle.grid.proofs.Rules.{grid}
 use Rattle.grid.proofs.has.Statement.{statement}
 use Rattle.grid.proofs.has.Tie as tie

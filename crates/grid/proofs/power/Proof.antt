@@ -1,4 +1,4 @@
--- `grid::power` meets its contract. Assumes nothing.
+-- `grid::power` meets its contract.
 use Rattle.grid.proofs.Rules.{grid}
 use Rattle.grid.proofs.power.Statement.{statement}
 use Rattle.grid.proofs.power.Tie as tie

@@ -1,4 +1,4 @@
--- `grid::put` meets its contract. Assumes nothing.
+-- `grid::put` meets its contract.
 use Rattle.grid.proofs.Rules.{grid}
 use Rattle.grid.proofs.put.Statement.{statement}
 use Rattle.grid.proofs.put.Tie as tie

@@ -1,4 +1,4 @@
--- `ids::chain_at` meets its contract. Assumes nothing.
+-- `ids::chain_at` meets its contract.
 use native.Mathlib.Omega.{arith}
 use Rattle.ids.proofs.Rules.{text-fits}
 use Rattle.ids.proofs.Chains.{chains}

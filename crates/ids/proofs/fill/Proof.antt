@@ -1,4 +1,4 @@
--- `ids::fill` meets its contract. Assumes nothing.
+-- `ids::fill` meets its contract.
 use Rattle.ids.proofs.Chains.{Filling, chains}
 use Rattle.ids.proofs.fill.Statement.{statement}
 use Rattle.ids.proofs.fill.Tie as tie

@@ -1,4 +1,4 @@
--- `ids::number` meets its contract. Assumes nothing.
+-- `ids::number` meets its contract.
 use Prim.Native.Nat.{_-_, _%_}
 use native.Mathlib.Omega.{arith}
 use Rattle.ids.proofs.Chains.{Trailing, trail-few, chains}

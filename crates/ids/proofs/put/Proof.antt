@@ -1,4 +1,4 @@
--- `ids::put` meets its contract. Assumes nothing.
+-- `ids::put` meets its contract.
 use Rattle.ids.proofs.Chains.{chains}
 use Rattle.ids.proofs.put.Statement.{statement}
 use Rattle.ids.proofs.put.Tie as tie

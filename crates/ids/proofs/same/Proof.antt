@@ -1,4 +1,4 @@
--- `ids::same` meets its contract. Assumes nothing.
+-- `ids::same` meets its contract.
 use native.Mathlib.Omega.{arith}
 use Rattle.ids.proofs.Rules.{ids, text-fits}
 use Rattle.ids.proofs.same.Statement.{statement}

@@ -1,4 +1,4 @@
--- `json::atom` meets its contract. Assumes nothing.
+-- `json::atom` meets its contract.
 use Rattle.json.proofs.Rules.{walks}
 use Rattle.json.proofs.atom.Statement.{statement}
 use Rattle.json.proofs.atom.Tie as tie

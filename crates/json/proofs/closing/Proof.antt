@@ -1,4 +1,4 @@
--- `json::closing` meets its contract. Assumes nothing.
+-- `json::closing` meets its contract.
 use Rattle.json.proofs.Rules.{lexes}
 use Rattle.json.proofs.closing.Statement.{statement}
 use Rattle.json.proofs.closing.Tie as tie

@@ -1,4 +1,4 @@
--- `json::digits_end` meets its contract. Assumes nothing.
+-- `json::digits_end` meets its contract.
 use Rattle.json.proofs.Rules.{walks}
 use Rattle.json.proofs.digits_end.Statement.{statement}
 use Rattle.json.proofs.digits_end.Tie as tie

@@ -1,4 +1,4 @@
--- `json::eight` meets its contract. Assumes nothing.
+-- `json::eight` meets its contract.
 use Prim.Native.Nat.{_+_}
 use native.Mathlib.Omega.{arith}
 use borrow.Author.Needs.{needs}

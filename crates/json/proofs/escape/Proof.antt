@@ -1,4 +1,4 @@
--- `json::escape` meets its contract. Assumes nothing.
+-- `json::escape` meets its contract.
 use Rattle.json.proofs.Rules.{lexes}
 use Rattle.json.proofs.escape.Statement.{statement}
 use Rattle.json.proofs.escape.Tie as tie

@@ -1,4 +1,4 @@
--- `json::exponent` meets its contract. Assumes nothing.
+-- `json::exponent` meets its contract.
 use Rattle.json.proofs.Rules.{lexes}
 use Rattle.json.proofs.exponent.Statement.{statement}
 use Rattle.json.proofs.exponent.Tie as tie

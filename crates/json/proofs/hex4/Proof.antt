@@ -1,4 +1,4 @@
--- `json::hex4` meets its contract. Assumes nothing.
+-- `json::hex4` meets its contract.
 use Prim.Native.Nat.{_≤_}
 use lib.ListN.{length}
 use Rattle.json.proofs.Parts.{Hexes}

@@ -1,4 +1,4 @@
--- `json::integer` meets its contract. Assumes nothing.
+-- `json::integer` meets its contract.
 use Rattle.json.proofs.Rules.{lexes}
 use Rattle.json.proofs.integer.Statement.{statement}
 use Rattle.json.proofs.integer.Tie as tie

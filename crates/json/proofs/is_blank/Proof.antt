@@ -1,4 +1,4 @@
--- `json::is_blank` meets its contract. Assumes nothing.
+-- `json::is_blank` meets its contract.
 use Rattle.json.proofs.Bytes.{bytes}
 use Rattle.json.proofs.is_blank.Statement.{statement}
 use Rattle.json.proofs.is_blank.Tie as tie

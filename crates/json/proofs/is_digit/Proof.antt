@@ -1,4 +1,4 @@
--- `json::is_digit` meets its contract. Assumes nothing.
+-- `json::is_digit` meets its contract.
 use Rattle.json.proofs.Bytes.{bytes}
 use Rattle.json.proofs.is_digit.Statement.{statement}
 use Rattle.json.proofs.is_digit.Tie as tie

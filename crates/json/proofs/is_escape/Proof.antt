@@ -1,4 +1,4 @@
--- `json::is_escape` meets its contract. Assumes nothing.
+-- `json::is_escape` meets its contract.
 use Rattle.json.proofs.Bytes.{bytes}
 use Rattle.json.proofs.is_escape.Statement.{statement}
 use Rattle.json.proofs.is_escape.Tie as tie

@@ -1,4 +1,4 @@
--- `json::is_hex` meets its contract. Assumes nothing.
+-- `json::is_hex` meets its contract.
 use Rattle.json.proofs.Bytes.{bytes}
 use Rattle.json.proofs.is_hex.Statement.{statement}
 use Rattle.json.proofs.is_hex.Tie as tie

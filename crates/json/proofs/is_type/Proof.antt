@@ -1,4 +1,4 @@
--- `json::is_type` meets its contract. Assumes nothing.
+-- `json::is_type` meets its contract.
 use borrow.Author.Needs.{needs}
 use Rattle.json.proofs.EightBytes.{typed, untyped}
 use Rattle.json.proofs.is_type.Statement.{statement}

@@ -1,4 +1,4 @@
--- `json::marks` meets its contract. Assumes nothing.
+-- `json::marks` meets its contract.
 use borrow.Author.Needs.{needs}
 use Rattle.json.proofs.EightBytes.{marked}
 use Rattle.json.proofs.marks.Statement.{statement}

@@ -1,4 +1,4 @@
--- `json::maybe_exponent` meets its contract. Assumes nothing.
+-- `json::maybe_exponent` meets its contract.
 use Rattle.json.proofs.Rules.{lexes}
 use Rattle.json.proofs.maybe_exponent.Statement.{statement}
 use Rattle.json.proofs.maybe_exponent.Tie as tie

@@ -1,4 +1,4 @@
--- `json::maybe_fraction` meets its contract. Assumes nothing.
+-- `json::maybe_fraction` meets its contract.
 use Rattle.json.proofs.Rules.{lexes}
 use Rattle.json.proofs.maybe_fraction.Statement.{statement}
 use Rattle.json.proofs.maybe_fraction.Tie as tie

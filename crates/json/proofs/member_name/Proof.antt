@@ -1,4 +1,4 @@
--- `json::member_name` meets its contract. Assumes nothing.
+-- `json::member_name` meets its contract.
 use native.Mathlib.Omega.{arith}
 use Rattle.json.proofs.Leaves.{string-small}
 use Rattle.json.proofs.Rules.{walks}

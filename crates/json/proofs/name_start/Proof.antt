@@ -1,4 +1,4 @@
--- `json::name_start` meets its contract. Assumes nothing.
+-- `json::name_start` meets its contract.
 use Rattle.json.proofs.Rules.{lexes}
 use Rattle.json.proofs.name_start.Statement.{statement}
 use Rattle.json.proofs.name_start.Tie as tie

@@ -1,4 +1,4 @@
--- `json::negative` meets its contract. Assumes nothing.
+-- `json::negative` meets its contract.
 use Rattle.json.proofs.Rules.{lexes}
 use Rattle.json.proofs.negative.Statement.{statement}
 use Rattle.json.proofs.negative.Tie as tie

@@ -1,4 +1,4 @@
--- `json::parse` meets its contract. Assumes nothing.
+-- `json::parse` meets its contract.
 use Rattle.json.proofs.Rules.{walks}
 use Rattle.json.proofs.parse.Statement.{statement}
 use Rattle.json.proofs.parse.Tie as tie

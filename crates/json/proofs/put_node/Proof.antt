@@ -1,4 +1,4 @@
--- `json::put_node` meets its contract. Assumes nothing.
+-- `json::put_node` meets its contract.
 use native.Mathlib.Omega.{arith}
 use lib.ListN.{length-set}
 use borrow.Author.Needs.{needs}

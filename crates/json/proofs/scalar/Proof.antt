@@ -1,4 +1,4 @@
--- `json::scalar` meets its contract. Assumes nothing.
+-- `json::scalar` meets its contract.
 use Rattle.json.proofs.Rules.{walks}
 use Rattle.json.proofs.scalar.Statement.{statement}
 use Rattle.json.proofs.scalar.Tie as tie

@@ -1,4 +1,4 @@
--- `json::skip_blanks` meets its contract. Assumes nothing.
+-- `json::skip_blanks` meets its contract.
 use Prim.Native.Nat.{_-_}
 use lib.ListN.{length}
 use Rattle.json.specs.Says.{Stays, blanks}

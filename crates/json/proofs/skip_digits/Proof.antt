@@ -1,4 +1,4 @@
--- `json::skip_digits` meets its contract. Assumes nothing.
+-- `json::skip_digits` meets its contract.
 use Prim.Native.Nat.{_-_}
 use lib.ListN.{length}
 use Rattle.json.specs.Says.{Stays, digital}

@@ -1,4 +1,4 @@
--- `json::some_digits` meets its contract. Assumes nothing.
+-- `json::some_digits` meets its contract.
 use Rattle.json.proofs.Rules.{lexes}
 use Rattle.json.proofs.some_digits.Statement.{statement}
 use Rattle.json.proofs.some_digits.Tie as tie

@@ -1,4 +1,4 @@
--- `json::string` meets its contract. Assumes nothing.
+-- `json::string` meets its contract.
 use Prim.Native.Nat.{_≤_, _-_}
 use lib.ListN.{length}
 use Rattle.json.specs.Says.{Reads, charsOf, to}

@@ -1,4 +1,4 @@
--- `json::text_node` meets its contract. Assumes nothing.
+-- `json::text_node` meets its contract.
 use Rattle.json.proofs.Rules.{walks}
 use Rattle.json.proofs.text_node.Statement.{statement}
 use Rattle.json.proofs.text_node.Tie as tie

@@ -1,4 +1,4 @@
--- `json::word` meets its contract. Assumes nothing.
+-- `json::word` meets its contract.
 use Prim.Native.Nat.{_≤_, _-_}
 use lib.ListN.{length}
 use Rattle.json.proofs.Parts.{Spells}

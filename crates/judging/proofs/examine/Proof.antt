@@ -1,4 +1,4 @@
--- `judging::examine` meets its contract. Assumes nothing.
+-- `judging::examine` meets its contract.
 use Rattle.judging.proofs.Rules.{judges}
 use Rattle.judging.proofs.examine.Statement.{statement}
 use Rattle.judging.proofs.examine.Tie as tie

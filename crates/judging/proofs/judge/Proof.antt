@@ -1,4 +1,4 @@
--- `judging::judge` meets its contract. Assumes nothing.
+-- `judging::judge` meets its contract.
 use Rattle.judging.proofs.Rules.{judges}
 use Rattle.judging.proofs.judge.Statement.{statement}
 use Rattle.judging.proofs.judge.Tie as tie

@@ -1,4 +1,4 @@
--- `judging::judge_in` meets its contract. Assumes nothing.
+-- `judging::judge_in` meets its contract.
 use Rattle.judging.proofs.Rules.{judges}
 use Rattle.judging.proofs.judge_in.Statement.{statement}
 use Rattle.judging.proofs.judge_in.Tie as tie

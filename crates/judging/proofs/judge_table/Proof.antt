@@ -1,4 +1,4 @@
--- `judging::judge_table` meets its contract. Assumes nothing.
+-- `judging::judge_table` meets its contract.
 use native.Mathlib.Omega.{arith}
 use Rattle.judging.specs.Laws.{table-refused}
 use Rattle.judging.proofs.Rules.{judges}

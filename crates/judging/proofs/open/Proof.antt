@@ -1,4 +1,4 @@
--- `judging::open` meets its contract. Assumes nothing.
+-- `judging::open` meets its contract.
 use Rattle.judging.proofs.Rules.{judges}
 use Rattle.judging.proofs.open.Statement.{statement}
 use Rattle.judging.proofs.open.Tie as tie

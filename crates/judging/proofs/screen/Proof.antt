@@ -1,4 +1,4 @@
--- `judging::screen` meets its contract. Assumes nothing.
+-- `judging::screen` meets its contract.
 use Rattle.judging.proofs.Rules.{judges}
 use Rattle.judging.proofs.screen.Statement.{statement}
 use Rattle.judging.proofs.screen.Tie as tie

@@ -1,4 +1,4 @@
--- `kebrawish::kebrawish_lay` meets its contract. Assumes nothing.
+-- `kebrawish::kebrawish_lay` meets its contract.
 use mathlib.Core.Path.{sym, ap, _∙_}
 use native.Mathlib.Omega.{arith}
 use Prim.Native.Nat.{ℕ, _*_, _+_, _^_}

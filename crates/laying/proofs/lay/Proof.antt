@@ -1,4 +1,4 @@
--- `laying::lay` meets its contract. Assumes nothing.
+-- `laying::lay` meets its contract.
 use Rattle.judging.specs.Laws.{passed-short, screened-refused}
 use Rattle.laying.proofs.Sheets.{zeroed, refuses, passed-lay, lay-answer}
 use Rattle.laying.proofs.Sheets.{lays}

@@ -1,4 +1,4 @@
--- `laying::lay_in` meets its contract. Assumes nothing.
+-- `laying::lay_in` meets its contract.
 use Rattle.judging.specs.Laws.{opened-tree, opened-refused}
 use Rattle.laying.proofs.Sheets.{refuses}
 use Rattle.laying.proofs.Sheets.{lays}

@@ -1,4 +1,4 @@
--- `laying::lay_long` meets its contract. Assumes nothing.
+-- `laying::lay_long` meets its contract.
 use native.Mathlib.Omega.{arith}
 use Rattle.laying.proofs.Sheets.{lays}
 use Rattle.laying.proofs.lay_long.Statement.{statement}

@@ -1,4 +1,4 @@
--- `laying::lay_table` meets its contract. Assumes nothing.
+-- `laying::lay_table` meets its contract.
 use native.Mathlib.Omega.{arith}
 use Rattle.judging.specs.Laws.{table-refused}
 use Rattle.laying.proofs.Sheets.{refuses, lay-ready, lay-no-room, lay-laid}

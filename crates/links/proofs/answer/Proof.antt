@@ -1,4 +1,4 @@
--- `links::answer` meets its contract. Assumes nothing.
+-- `links::answer` meets its contract.
 use Rattle.links.proofs.Rules.{answering}
 use Rattle.links.proofs.answer.Statement.{statement}
 use Rattle.links.proofs.answer.Tie as tie

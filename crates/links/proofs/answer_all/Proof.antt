@@ -1,4 +1,4 @@
--- `links::answer_all` meets its contract. Assumes nothing.
+-- `links::answer_all` meets its contract.
 use Prim.Native.Nat.{_-_}
 use Rattle.links.proofs.Rules.{sweeping}
 use Rattle.links.proofs.Sweeps.{Opening}

@@ -1,4 +1,4 @@
--- `links::answer_children` meets its contract. Assumes nothing.
+-- `links::answer_children` meets its contract.
 use Rattle.links.proofs.Rules.{answering}
 use Rattle.links.proofs.answer_children.Statement.{statement}
 use Rattle.links.proofs.answer_children.Tie as tie

@@ -1,4 +1,4 @@
--- `links::answer_list` meets its contract. Assumes nothing.
+-- `links::answer_list` meets its contract.
 use Prim.Native.Nat.{_-_}
 use Rattle.links.proofs.Answering.{Answering}
 use Rattle.links.proofs.Walk.{walk-node, walk-next}

@@ -1,4 +1,4 @@
--- `links::answer_object` meets its contract. Assumes nothing.
+-- `links::answer_object` meets its contract.
 use native.Mathlib.Omega.{arith}
 use Rattle.ids.proofs.Rules.{object-onward}
 use Rattle.fields.specs.Laws.{sought-in}

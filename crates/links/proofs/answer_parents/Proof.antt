@@ -1,4 +1,4 @@
--- `links::answer_parents` meets its contract. Assumes nothing.
+-- `links::answer_parents` meets its contract.
 use Rattle.links.proofs.Rules.{answering}
 use Rattle.links.proofs.answer_parents.Statement.{statement}
 use Rattle.links.proofs.answer_parents.Tie as tie

@@ -1,4 +1,4 @@
--- `links::has_parent` meets its contract. Assumes nothing.
+-- `links::has_parent` meets its contract.
 use mathlib.Core.Path.{refl}
 use Rattle.utf8.specs.Ascii.{ascii}
 use Rattle.shapes.specs.Laws.{seeks-find}

@@ -1,4 +1,4 @@
--- `links::is_group` meets its contract. Assumes nothing.
+-- `links::is_group` meets its contract.
 use mathlib.Core.Path.{refl}
 use Rattle.utf8.specs.Ascii.{ascii}
 use Rattle.shapes.specs.Laws.{seeks-find}

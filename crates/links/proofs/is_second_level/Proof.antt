@@ -1,4 +1,4 @@
--- `links::is_second_level` meets its contract. Assumes nothing.
+-- `links::is_second_level` meets its contract.
 use Rattle.links.proofs.Level.{level}
 use Rattle.links.proofs.is_second_level.Statement.{statement}
 use Rattle.links.proofs.is_second_level.Tie as tie

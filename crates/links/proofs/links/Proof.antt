@@ -1,4 +1,4 @@
--- `links::links` meets its contract. Assumes nothing.
+-- `links::links` meets its contract.
 use Rattle.links.proofs.Rules.{sweeping}
 use Rattle.links.proofs.links.Statement.{statement}
 use Rattle.links.proofs.links.Tie as tie

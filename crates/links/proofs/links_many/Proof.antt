@@ -1,4 +1,4 @@
--- `links::links_many` meets its contract. Assumes nothing.
+-- `links::links_many` meets its contract.
 use mathlib.Core.Path.{refl}
 use native.Mathlib.Omega.{arith}
 use Rattle.links.proofs.Rules.{sweeping, emptied}

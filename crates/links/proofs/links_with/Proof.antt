@@ -1,4 +1,4 @@
--- `links::links_with` meets its contract. Assumes nothing.
+-- `links::links_with` meets its contract.
 use mathlib.Core.Path.{refl}
 use Rattle.nodes.specs.Laws.{fresh-zero, fresh-length}
 use Rattle.links.proofs.Rules.{sweeping, numbered}

@@ -1,4 +1,4 @@
--- `links::mark` meets its contract. Assumes nothing.
+-- `links::mark` meets its contract.
 use Rattle.links.proofs.Rules.{marking}
 use Rattle.links.proofs.mark.Statement.{statement}
 use Rattle.links.proofs.mark.Tie as tie

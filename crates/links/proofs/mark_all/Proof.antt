@@ -1,4 +1,4 @@
--- `links::mark_all` meets its contract. Assumes nothing.
+-- `links::mark_all` meets its contract.
 use Prim.Native.Nat.{_-_, _≤_}
 use native.Mathlib.Omega.{arith}
 use Rattle.links.specs.Says.{Kept, Notes}

@@ -1,4 +1,4 @@
--- `links::mark_found` meets its contract. Assumes nothing.
+-- `links::mark_found` meets its contract.
 use Rattle.links.proofs.Rules.{marking}
 use Rattle.links.proofs.mark_found.Statement.{statement}
 use Rattle.links.proofs.mark_found.Tie as tie

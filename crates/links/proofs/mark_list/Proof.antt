@@ -1,4 +1,4 @@
--- `links::mark_list` meets its contract. Assumes nothing.
+-- `links::mark_list` meets its contract.
 use Prim.Native.Nat.{_-_}
 use Rattle.links.specs.Says.{Kept}
 use Rattle.links.proofs.Marking.{Marking}

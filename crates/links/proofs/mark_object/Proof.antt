@@ -1,4 +1,4 @@
--- `links::mark_object` meets its contract. Assumes nothing.
+-- `links::mark_object` meets its contract.
 use mathlib.Core.Path.{refl}
 use native.Mathlib.Omega.{arith}
 use Rattle.utf8.specs.Ascii.{ascii}

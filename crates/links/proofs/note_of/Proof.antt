@@ -1,4 +1,4 @@
--- `links::note_of` meets its contract. Assumes nothing.
+-- `links::note_of` meets its contract.
 use Rattle.links.proofs.Noting.{telling}
 use Rattle.links.proofs.note_of.Statement.{statement}
 use Rattle.links.proofs.note_of.Tie as tie

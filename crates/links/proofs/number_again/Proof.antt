@@ -1,4 +1,4 @@
--- `links::number_again` meets its contract. Assumes nothing.
+-- `links::number_again` meets its contract.
 use Rattle.links.proofs.Rules.{noting}
 use Rattle.links.proofs.number_again.Statement.{statement}
 use Rattle.links.proofs.number_again.Tie as tie

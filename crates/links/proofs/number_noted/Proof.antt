@@ -1,4 +1,4 @@
--- `links::number_noted` meets its contract. Assumes nothing.
+-- `links::number_noted` meets its contract.
 use Rattle.links.proofs.Rules.{noting}
 use Rattle.links.proofs.number_noted.Statement.{statement}
 use Rattle.links.proofs.number_noted.Tie as tie

@@ -1,4 +1,4 @@
--- `links::told` meets its contract. Assumes nothing.
+-- `links::told` meets its contract.
 use Rattle.links.proofs.Noting.{telling}
 use Rattle.links.proofs.told.Statement.{statement}
 use Rattle.links.proofs.told.Tie as tie

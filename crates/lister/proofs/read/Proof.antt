@@ -1,4 +1,4 @@
--- `lister::read` is safe, ends, and counts bytes of the room. Assumes nothing.
+-- `lister::read` is safe, ends, and counts bytes of the room.
 use mathlib.Core.Path.{_≡_, sym}
 use mathlib.Core.List.{List}
 use Prim.Native.Nat.{ℕ, _-_, _≤_}

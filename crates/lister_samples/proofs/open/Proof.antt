@@ -1,4 +1,4 @@
--- `lister_samples::open` is safe, and ends. Assumes nothing.
+-- `lister_samples::open` is safe, and ends.
 use mathlib.Core.Path.{_≡_}
 use Prim.Native.Nat.{_-_}
 use lib.ListN.{length}

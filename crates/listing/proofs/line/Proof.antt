@@ -1,4 +1,4 @@
--- `listing::line` meets its contract. Assumes nothing.
+-- `listing::line` meets its contract.
 use Rattle.listing.proofs.Rules.{lists}
 use Rattle.listing.proofs.line.Statement.{statement}
 use Rattle.listing.proofs.line.Tie as tie

@@ -1,4 +1,4 @@
--- `listing::list` meets its contract. Assumes nothing.
+-- `listing::list` meets its contract.
 use borrow.Author.Needs.{needs}
 use Rattle.listing.proofs.Rules.{listed}
 use Rattle.listing.proofs.list.Statement.{statement}

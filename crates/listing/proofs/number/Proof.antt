@@ -1,4 +1,4 @@
--- `listing::number` meets its contract. Assumes nothing.
+-- `listing::number` meets its contract.
 use borrow.Author.Needs.{needs}
 use Rattle.listing.proofs.Rules.{spell}
 use Rattle.listing.proofs.number.Statement.{statement}

@@ -1,4 +1,4 @@
--- `listing::put` meets its contract. Assumes nothing.
+-- `listing::put` meets its contract.
 use Prim.Native.Nat.{_-_}
 use lib.ListN.{length}
 use Rattle.listing.proofs.Rules.{Puts, lists}

@@ -1,4 +1,4 @@
--- `listing::refused_line` meets its contract. Assumes nothing.
+-- `listing::refused_line` meets its contract.
 use mathlib.Core.Path.{refl}
 use borrow.Author.Needs.{needs}
 use Rattle.utf8.specs.Ascii.{ascii}

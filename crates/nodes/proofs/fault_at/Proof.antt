@@ -1,4 +1,4 @@
--- `nodes::fault_at` meets its contract. Assumes nothing.
+-- `nodes::fault_at` meets its contract.
 use mathlib.Core.Path.{refl}
 use borrow.Author.Needs.{needs}
 use Rattle.nodes.specs.Faults.{fault}

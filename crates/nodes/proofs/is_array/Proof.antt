@@ -1,4 +1,4 @@
--- `nodes::is_array` meets its contract. Assumes nothing.
+-- `nodes::is_array` meets its contract.
 use Rattle.nodes.proofs.Firsts.{firsts}
 use Rattle.nodes.proofs.is_array.Statement.{statement}
 use Rattle.nodes.proofs.is_array.Tie as tie

@@ -1,4 +1,4 @@
--- `nodes::is_null` meets its contract. Assumes nothing.
+-- `nodes::is_null` meets its contract.
 use Rattle.nodes.proofs.Firsts.{firsts}
 use Rattle.nodes.proofs.is_null.Statement.{statement}
 use Rattle.nodes.proofs.is_null.Tie as tie

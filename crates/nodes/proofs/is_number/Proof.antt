@@ -1,4 +1,4 @@
--- `nodes::is_number` meets its contract. Assumes nothing.
+-- `nodes::is_number` meets its contract.
 use Rattle.nodes.proofs.Firsts.{firsts}
 use Rattle.nodes.proofs.is_number.Statement.{statement}
 use Rattle.nodes.proofs.is_number.Tie as tie

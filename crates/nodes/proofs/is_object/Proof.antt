@@ -1,4 +1,4 @@
--- `nodes::is_object` meets its contract. Assumes nothing.
+-- `nodes::is_object` meets its contract.
 use Rattle.nodes.proofs.Firsts.{firsts}
 use Rattle.nodes.proofs.is_object.Statement.{statement}
 use Rattle.nodes.proofs.is_object.Tie as tie

@@ -1,4 +1,4 @@
--- `nodes::is_string` meets its contract. Assumes nothing.
+-- `nodes::is_string` meets its contract.
 use Rattle.nodes.proofs.Firsts.{firsts}
 use Rattle.nodes.proofs.is_string.Statement.{statement}
 use Rattle.nodes.proofs.is_string.Tie as tie

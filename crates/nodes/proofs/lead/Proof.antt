@@ -1,4 +1,4 @@
--- `nodes::lead` meets its contract. Assumes nothing.
+-- `nodes::lead` meets its contract.
 use Rattle.nodes.proofs.Firsts.{firsts}
 use Rattle.nodes.proofs.lead.Statement.{statement}
 use Rattle.nodes.proofs.lead.Tie as tie

@@ -1,4 +1,4 @@
--- `nodes::member` meets its contract. Assumes nothing.
+-- `nodes::member` meets its contract.
 use Prim.Native.Nat.{_-_}
 use native.Mathlib.Omega.{arith}
 use Rattle.nodes.specs.Walks.{node-room, walk-fits, walk-room}

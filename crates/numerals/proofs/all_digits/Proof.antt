@@ -1,4 +1,4 @@
--- `numerals::all_digits` meets its contract. Assumes nothing.
+-- `numerals::all_digits` meets its contract.
 use Prim.Native.Nat.{_-_}
 use Rattle.numerals.proofs.Short.{short, Digital}
 use Rattle.numerals.proofs.all_digits.Statement.{statement}

@@ -1,4 +1,4 @@
--- `numerals::append` meets its contract. Assumes nothing.
+-- `numerals::append` meets its contract.
 use Rattle.numerals.proofs.Sums.{digital, Raised}
 use Rattle.numerals.proofs.append.Statement.{statement}
 use Rattle.numerals.proofs.append.Tie as tie

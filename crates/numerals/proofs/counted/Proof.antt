@@ -1,4 +1,4 @@
--- `numerals::counted` meets its contract. Assumes nothing.
+-- `numerals::counted` meets its contract.
 use Rattle.numerals.proofs.Sums.{digital}
 use Rattle.numerals.proofs.counted.Statement.{statement}
 use Rattle.numerals.proofs.counted.Tie as tie

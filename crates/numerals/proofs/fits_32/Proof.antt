@@ -1,4 +1,4 @@
--- `numerals::fits_32` meets its contract. Assumes nothing.
+-- `numerals::fits_32` meets its contract.
 use Rattle.numerals.proofs.Wholes.{wholes}
 use Rattle.numerals.proofs.fits_32.Statement.{statement}
 use Rattle.numerals.proofs.fits_32.Tie as tie

@@ -1,4 +1,4 @@
--- `numerals::gap` meets its contract. Assumes nothing.
+-- `numerals::gap` meets its contract.
 use Rattle.numerals.proofs.Powers.{powers}
 use Rattle.numerals.proofs.gap.Statement.{statement}
 use Rattle.numerals.proofs.gap.Tie as tie

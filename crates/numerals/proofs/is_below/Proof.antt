@@ -1,4 +1,4 @@
--- `numerals::is_below` meets its contract. Assumes nothing.
+-- `numerals::is_below` meets its contract.
 use Rattle.numerals.proofs.Wholes.{wholes}
 use Rattle.numerals.proofs.is_below.Statement.{statement}
 use Rattle.numerals.proofs.is_below.Tie as tie

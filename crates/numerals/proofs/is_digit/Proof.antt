@@ -1,4 +1,4 @@
--- `numerals::is_digit` meets its contract. Assumes nothing.
+-- `numerals::is_digit` meets its contract.
 use Rattle.numerals.proofs.Bytes.{bytes}
 use Rattle.numerals.proofs.is_digit.Statement.{statement}
 use Rattle.numerals.proofs.is_digit.Tie as tie

@@ -1,4 +1,4 @@
--- `numerals::is_integer` meets its contract. Assumes nothing.
+-- `numerals::is_integer` meets its contract.
 use Prim.Native.Nat.{_-_}
 use Rattle.numerals.proofs.Bytes.{bytes, Plain}
 use Rattle.numerals.proofs.is_integer.Statement.{statement}

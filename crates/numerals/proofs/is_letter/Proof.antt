@@ -1,4 +1,4 @@
--- `numerals::is_letter` meets its contract. Assumes nothing.
+-- `numerals::is_letter` meets its contract.
 use Rattle.numerals.proofs.Bytes.{bytes}
 use Rattle.numerals.proofs.is_letter.Statement.{statement}
 use Rattle.numerals.proofs.is_letter.Tie as tie

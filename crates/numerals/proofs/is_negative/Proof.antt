@@ -1,4 +1,4 @@
--- `numerals::is_negative` meets its contract. Assumes nothing.
+-- `numerals::is_negative` meets its contract.
 use Rattle.numerals.proofs.Bytes.{bytes}
 use Rattle.numerals.proofs.is_negative.Statement.{statement}
 use Rattle.numerals.proofs.is_negative.Tie as tie

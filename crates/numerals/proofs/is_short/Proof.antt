@@ -1,4 +1,4 @@
--- `numerals::is_short` meets its contract. Assumes nothing.
+-- `numerals::is_short` meets its contract.
 use Rattle.numerals.proofs.Short.{short}
 use Rattle.numerals.proofs.is_short.Statement.{statement}
 use Rattle.numerals.proofs.is_short.Tie as tie

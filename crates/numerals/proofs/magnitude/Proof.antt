@@ -1,4 +1,4 @@
--- `numerals::magnitude` meets its contract. Assumes nothing.
+-- `numerals::magnitude` meets its contract.
 use Prim.Native.Nat.{_-_}
 use Rattle.numerals.proofs.Bytes.{bytes, Counts}
 use Rattle.numerals.proofs.magnitude.Statement.{statement}

@@ -1,4 +1,4 @@
--- `numerals::pair` meets its contract. Assumes nothing.
+-- `numerals::pair` meets its contract.
 use Rattle.numerals.proofs.Pairs.{pairs}
 use Rattle.numerals.proofs.pair.Statement.{statement}
 use Rattle.numerals.proofs.pair.Tie as tie

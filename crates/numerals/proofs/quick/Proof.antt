@@ -1,4 +1,4 @@
--- `numerals::quick` meets its contract. Assumes nothing.
+-- `numerals::quick` meets its contract.
 use Prim.Native.Nat.{_-_}
 use Rattle.numerals.proofs.Short.{short, Quickly}
 use Rattle.numerals.proofs.quick.Statement.{statement}

@@ -1,4 +1,4 @@
--- `numerals::read` meets its contract. Assumes nothing.
+-- `numerals::read` meets its contract.
 use Prim.Native.Nat.{_-_}
 use Rattle.numerals.proofs.Sums.{digital, Inside}
 use Rattle.numerals.proofs.read.Statement.{statement}

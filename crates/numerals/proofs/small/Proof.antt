@@ -1,4 +1,4 @@
--- `numerals::small` meets its contract. Assumes nothing.
+-- `numerals::small` meets its contract.
 use Rattle.numerals.proofs.Wholes.{wholes}
 use Rattle.numerals.proofs.small.Statement.{statement}
 use Rattle.numerals.proofs.small.Tie as tie

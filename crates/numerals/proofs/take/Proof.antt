@@ -1,4 +1,4 @@
--- `numerals::take` meets its contract. Assumes nothing.
+-- `numerals::take` meets its contract.
 use Rattle.numerals.proofs.Sums.{digital}
 use Rattle.numerals.proofs.take.Statement.{statement}
 use Rattle.numerals.proofs.take.Tie as tie

@@ -1,4 +1,4 @@
--- `numerals::ten_power` meets its contract. Assumes nothing.
+-- `numerals::ten_power` meets its contract.
 use Rattle.numerals.proofs.Powers.{powers}
 use Rattle.numerals.proofs.ten_power.Statement.{statement}
 use Rattle.numerals.proofs.ten_power.Tie as tie

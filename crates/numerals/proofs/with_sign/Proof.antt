@@ -1,4 +1,4 @@
--- `numerals::with_sign` meets its contract. Assumes nothing.
+-- `numerals::with_sign` meets its contract.
 use Rattle.numerals.proofs.Wholes.{wholes}
 use Rattle.numerals.proofs.with_sign.Statement.{statement}
 use Rattle.numerals.proofs.with_sign.Tie as tie

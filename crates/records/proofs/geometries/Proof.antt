@@ -1,4 +1,4 @@
--- `records::geometries` meets its contract. Assumes nothing.
+-- `records::geometries` meets its contract.
 use Prim.Native.Nat.{_-_}
 use Rattle.arrays.specs.Laws.{Laying, laying-start, laying-item, laying-room}
 use Rattle.records.proofs.Nodes.{found-holds}

@@ -1,4 +1,4 @@
--- `records::link_record` meets its contract. Assumes nothing.
+-- `records::link_record` meets its contract.
 use Rattle.records.proofs.Rules.{records}
 use Rattle.records.proofs.link_record.Statement.{statement}
 use Rattle.records.proofs.link_record.Tie as tie

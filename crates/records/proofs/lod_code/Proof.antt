@@ -1,4 +1,4 @@
--- `records::lod_code` meets its contract. Assumes nothing.
+-- `records::lod_code` meets its contract.
 use Rattle.records.proofs.Rules.{records}
 use Rattle.records.proofs.lod_code.Statement.{statement}
 use Rattle.records.proofs.lod_code.Tie as tie

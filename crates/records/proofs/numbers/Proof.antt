@@ -1,4 +1,4 @@
--- `records::numbers` meets its contract. Assumes nothing.
+-- `records::numbers` meets its contract.
 use Prim.Native.Nat.{_-_}
 use Rattle.records.proofs.Links.{Listing, listing-room}
 use Rattle.records.proofs.Rules.{records}

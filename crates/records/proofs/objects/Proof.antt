@@ -1,4 +1,4 @@
--- `records::objects` meets its contract. Assumes nothing.
+-- `records::objects` meets its contract.
 use Prim.Native.Nat.{_-_}
 use Rattle.records.proofs.Whole.{Objecting}
 use Rattle.records.proofs.Rules.{whole}

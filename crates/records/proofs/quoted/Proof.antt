@@ -1,4 +1,4 @@
--- `records::quoted` meets its contract. Assumes nothing.
+-- `records::quoted` meets its contract.
 use Rattle.records.proofs.Rules.{records}
 use Rattle.records.proofs.quoted.Statement.{statement}
 use Rattle.records.proofs.quoted.Tie as tie

@@ -1,4 +1,4 @@
--- `records::semantics` meets its contract. Assumes nothing.
+-- `records::semantics` meets its contract.
 use mathlib.Core.Path.{refl}
 use Rattle.utf8.specs.Ascii.{ascii}
 use Rattle.shapes.specs.Laws.{seeks-find}

@@ -1,4 +1,4 @@
--- `records::sheet` meets its contract. Assumes nothing.
+-- `records::sheet` meets its contract.
 use mathlib.Core.Path.{refl}
 use Rattle.utf8.specs.Ascii.{ascii}
 use Rattle.shapes.specs.Laws.{seeks-find}

@@ -1,4 +1,4 @@
--- `records::surface_type` meets its contract. Assumes nothing.
+-- `records::surface_type` meets its contract.
 use Rattle.records.proofs.Rules.{records}
 use Rattle.records.proofs.surface_type.Statement.{statement}
 use Rattle.records.proofs.surface_type.Tie as tie

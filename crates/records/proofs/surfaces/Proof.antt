@@ -1,4 +1,4 @@
--- `records::surfaces` meets its contract. Assumes nothing.
+-- `records::surfaces` meets its contract.
 use Prim.Native.Nat.{_-_}
 use Rattle.arrays.specs.Laws.{Laying}
 use Rattle.records.specs.Bytes.{surfaceBytes}

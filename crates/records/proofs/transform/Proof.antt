@@ -1,4 +1,4 @@
--- `records::transform` meets its contract. Assumes nothing.
+-- `records::transform` meets its contract.
 use native.Mathlib.Omega.{arith}
 use mathlib.Core.Path.{refl}
 use Rattle.utf8.specs.Ascii.{ascii}

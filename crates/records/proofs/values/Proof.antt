@@ -1,4 +1,4 @@
--- `records::values` meets its contract. Assumes nothing.
+-- `records::values` meets its contract.
 use Rattle.records.proofs.Members.{values-depth, values-wrote}
 use Rattle.records.proofs.Nodes.{wrote-onward}
 use Rattle.records.proofs.Rules.{records}

@@ -1,4 +1,4 @@
--- `records::vertices` meets its contract. Assumes nothing.
+-- `records::vertices` meets its contract.
 use Rattle.records.specs.Bytes.{verticesBytes}
 use Rattle.records.proofs.Nodes.{wrote-onward}
 use Rattle.records.proofs.Nodes.{closed}

@@ -1,5 +1,5 @@
 use mathlib.Core.Path.{sym, ap}
-use Rattle.refusals.specs.Refusals.{numberOf}
+use Rattle.refusals.specs.Refusals.{ruleNumber}
 use borrow.Author.Needs.{needs}
 use Rattle.refusals.proofs.number_of.Statement.{statement}
 use Rattle.refusals.proofs.number_of.Tie as tie
@@ -59,76 +59,76 @@ enum-told-18 : tie.Need-enum-told-18
 enum-told-18 c = search needs
 
 returns : tie.Need-returns
-unfolding numberOf
-returns c = sym (ap numberOf (c .enum-told .given .1))
+unfolding ruleNumber
+returns c = sym (ap ruleNumber (c .enum-told .given .1))
 
 returns-2 : tie.Need-returns-2
-unfolding numberOf
-returns-2 c = sym (ap numberOf (c .enum-told2 .given .1))
+unfolding ruleNumber
+returns-2 c = sym (ap ruleNumber (c .enum-told2 .given .1))
 
 returns-3 : tie.Need-returns-3
-unfolding numberOf
-returns-3 c = sym (ap numberOf (c .enum-told3 .given .1))
+unfolding ruleNumber
+returns-3 c = sym (ap ruleNumber (c .enum-told3 .given .1))
 
 returns-4 : tie.Need-returns-4
-unfolding numberOf
-returns-4 c = sym (ap numberOf (c .enum-told4 .given .1))
+unfolding ruleNumber
+returns-4 c = sym (ap ruleNumber (c .enum-told4 .given .1))
 
 returns-5 : tie.Need-returns-5
-unfolding numberOf
-returns-5 c = sym (ap numberOf (c .enum-told5 .given .1))
+unfolding ruleNumber
+returns-5 c = sym (ap ruleNumber (c .enum-told5 .given .1))
 
 returns-6 : tie.Need-returns-6
-unfolding numberOf
-returns-6 c = sym (ap numberOf (c .enum-told6 .given .1))
+unfolding ruleNumber
+returns-6 c = sym (ap ruleNumber (c .enum-told6 .given .1))
 
 returns-7 : tie.Need-returns-7
-unfolding numberOf
-returns-7 c = sym (ap numberOf (c .enum-told7 .given .1))
+unfolding ruleNumber
+returns-7 c = sym (ap ruleNumber (c .enum-told7 .given .1))
 
 returns-8 : tie.Need-returns-8
-unfolding numberOf
-returns-8 c = sym (ap numberOf (c .enum-told8 .given .1))
+unfolding ruleNumber
+returns-8 c = sym (ap ruleNumber (c .enum-told8 .given .1))
 
 returns-9 : tie.Need-returns-9
-unfolding numberOf
-returns-9 c = sym (ap numberOf (c .enum-told9 .given .1))
+unfolding ruleNumber
+returns-9 c = sym (ap ruleNumber (c .enum-told9 .given .1))
 
 returns-10 : tie.Need-returns-10
-unfolding numberOf
-returns-10 c = sym (ap numberOf (c .enum-told10 .given .1))
+unfolding ruleNumber
+returns-10 c = sym (ap ruleNumber (c .enum-told10 .given .1))
 
 returns-11 : tie.Need-returns-11
-unfolding numberOf
-returns-11 c = sym (ap numberOf (c .enum-told11 .given .1))
+unfolding ruleNumber
+returns-11 c = sym (ap ruleNumber (c .enum-told11 .given .1))
 
 returns-12 : tie.Need-returns-12
-unfolding numberOf
-returns-12 c = sym (ap numberOf (c .enum-told12 .given .1))
+unfolding ruleNumber
+returns-12 c = sym (ap ruleNumber (c .enum-told12 .given .1))
 
 returns-13 : tie.Need-returns-13
-unfolding numberOf
-returns-13 c = sym (ap numberOf (c .enum-told13 .given .1))
+unfolding ruleNumber
+returns-13 c = sym (ap ruleNumber (c .enum-told13 .given .1))
 
 returns-14 : tie.Need-returns-14
-unfolding numberOf
-returns-14 c = sym (ap numberOf (c .enum-told14 .given .1))
+unfolding ruleNumber
+returns-14 c = sym (ap ruleNumber (c .enum-told14 .given .1))
 
 returns-15 : tie.Need-returns-15
-unfolding numberOf
-returns-15 c = sym (ap numberOf (c .enum-told15 .given .1))
+unfolding ruleNumber
+returns-15 c = sym (ap ruleNumber (c .enum-told15 .given .1))
 
 returns-16 : tie.Need-returns-16
-unfolding numberOf
-returns-16 c = sym (ap numberOf (c .enum-told16 .given .1))
+unfolding ruleNumber
+returns-16 c = sym (ap ruleNumber (c .enum-told16 .given .1))
 
 returns-17 : tie.Need-returns-17
-unfolding numberOf
-returns-17 c = sym (ap numberOf (c .enum-told17 .given .1))
+unfolding ruleNumber
+returns-17 c = sym (ap ruleNumber (c .enum-told17 .given .1))
 
 returns-18 : tie.Need-returns-18
-unfolding numberOf
-returns-18 c = sym (ap numberOf (c .enum-told18 .given .1))
+unfolding ruleNumber
+returns-18 c = sym (ap ruleNumber (c .enum-told18 .given .1))
 
 pub number-of-spec : {M : Type 1} → statement M
 number-of-spec =

@@ -1,4 +1,4 @@
--- `refusals::refuse_fault` meets its contract. Assumes nothing.
+-- `refusals::refuse_fault` meets its contract.
 use Prim.Native.Nat.{ℕ, _%_}
 use mathlib.Core.Path.{ap}
 use Rattle.nodes.specs.Faults.{ruleOf, placeIn}

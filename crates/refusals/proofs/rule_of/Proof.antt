@@ -3,7 +3,7 @@ use mathlib.Core.Path.{_≡_}
 use mathlib.Core.List.{[], _∷_}
 use types.Run.{OneOf}
 use native.Mathlib.Omega.{arith}
-use Rattle.refusals.specs.Refusals.{numberOf}
+use Rattle.refusals.specs.Refusals.{ruleNumber}
 use Rattle.refusals.proofs.rule_of.Statement.{statement}
 use Rattle.refusals.proofs.rule_of.Tie as tie
 
@@ -15,55 +15,55 @@ last : (n : ℕ) → 17 ≤ n → n < 18 → 17 ≡ n
 last n h k = omega arith
 
 returns : tie.Need-returns
-unfolding numberOf
+unfolding ruleNumber
 returns c = omega arith
 
 returns-2 : tie.Need-returns-2
-unfolding numberOf
+unfolding ruleNumber
 returns-2 c = omega arith
 
 returns-3 : tie.Need-returns-3
-unfolding numberOf
+unfolding ruleNumber
 returns-3 c = omega arith
 
 returns-4 : tie.Need-returns-4
-unfolding numberOf
+unfolding ruleNumber
 returns-4 c = omega arith
 
 returns-5 : tie.Need-returns-5
-unfolding numberOf
+unfolding ruleNumber
 returns-5 c = omega arith
 
 returns-6 : tie.Need-returns-6
-unfolding numberOf
+unfolding ruleNumber
 returns-6 c = omega arith
 
 returns-7 : tie.Need-returns-7
-unfolding numberOf
+unfolding ruleNumber
 returns-7 c = omega arith
 
 returns-8 : tie.Need-returns-8
-unfolding numberOf
+unfolding ruleNumber
 returns-8 c = omega arith
 
 returns-9 : tie.Need-returns-9
-unfolding numberOf
+unfolding ruleNumber
 returns-9 c = omega arith
 
 returns-10 : tie.Need-returns-10
-unfolding numberOf
+unfolding ruleNumber
 returns-10 c = omega arith
 
 returns-11 : tie.Need-returns-11
-unfolding numberOf
+unfolding ruleNumber
 returns-11 c = omega arith
 
 returns-12 : tie.Need-returns-12
-unfolding numberOf
+unfolding ruleNumber
 returns-12 c = omega arith
 
 returns-13 : tie.Need-returns-13
-unfolding numberOf
+unfolding ruleNumber
 returns-13 c =
     let k = c .match .rest in
     last _ (past 16 _ (past 15 _ (past 14 _ (past 13 _ (past 12 _ (past 11 _ (past 10 _ (past 9 _ (past 8 _ (past 7 _ (past 6 _ (past 5 _ (c .before .pre .0) (k .0 .0 .0 .0 .0 .0 .0 .0 .0 .0 .0 .1)) (k .0 .0 .0 .0 .0 .0 .0 .0 .0 .0 .1)) (k .0 .0 .0 .0 .0 .0 .0 .0 .0 .1)) (k .0 .0 .0 .0 .0 .0 .0 .0 .1)) (k .0 .0 .0 .0 .0 .0 .0 .1)) (k .0 .0 .0 .0 .0 .0 .1)) (k .0 .0 .0 .0 .0 .1)) (k .0 .0 .0 .0 .1)) (k .0 .0 .0 .1)) (k .0 .0 .1)) (k .0 .1)) (k .1)) (c .before .pre .1)

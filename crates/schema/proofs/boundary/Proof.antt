@@ -1,4 +1,4 @@
--- `schema::boundary` meets its contract. Assumes nothing.
+-- `schema::boundary` meets its contract.
 use Rattle.schema.specs.Schema.{boundaries}
 use Rattle.schema.proofs.Objects.{found-nothing, found-some}
 use Rattle.schema.proofs.GeometryLaws.{geometric, boundary-none, boundary-is}

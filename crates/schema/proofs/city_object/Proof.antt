@@ -1,4 +1,4 @@
--- `schema::city_object` meets its contract. Assumes nothing.
+-- `schema::city_object` meets its contract.
 use mathlib.Core.Path.{refl}
 use Rattle.utf8.specs.Ascii.{ascii}
 use Rattle.shapes.specs.Laws.{seeks-find}

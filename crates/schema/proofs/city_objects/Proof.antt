@@ -1,4 +1,4 @@
--- `schema::city_objects` meets its contract. Assumes nothing.
+-- `schema::city_objects` meets its contract.
 use mathlib.Core.Path.{refl}
 use Rattle.fields.specs.Laws.{at-node}
 use Rattle.schema.specs.Schema.{cityObjects}

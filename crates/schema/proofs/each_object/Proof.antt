@@ -1,4 +1,4 @@
--- `schema::each_object` meets its contract. Assumes nothing.
+-- `schema::each_object` meets its contract.
 use Prim.Native.Nat.{_-_}
 use native.Mathlib.Omega.{arith}
 use Rattle.nodes.specs.Walks.{node-room}

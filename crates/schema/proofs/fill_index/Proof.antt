@@ -1,4 +1,4 @@
--- `schema::fill_index` meets its contract. Assumes nothing.
+-- `schema::fill_index` meets its contract.
 use Prim.Native.Nat.{_-_}
 use native.Mathlib.Omega.{arith}
 use mathlib.Core.Path.{refl}

@@ -1,4 +1,4 @@
--- `schema::found_pairs` meets its contract. Assumes nothing.
+-- `schema::found_pairs` meets its contract.
 use Rattle.shapes.specs.Laws.{gives-as}
 use Rattle.schema.specs.Schema.{threePairs}
 use Rattle.schema.proofs.Objects.{root, found-nothing, found-some, pairs-is}

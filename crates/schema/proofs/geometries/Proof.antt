@@ -1,4 +1,4 @@
--- `schema::geometries` meets its contract. Assumes nothing.
+-- `schema::geometries` meets its contract.
 use Prim.Native.Nat.{_-_}
 use Rattle.shapes.specs.Laws.{Pass, pass-done}
 use Rattle.schema.specs.Schema as schema

@@ -1,4 +1,4 @@
--- `schema::geometry_type` meets its contract. Assumes nothing.
+-- `schema::geometry_type` meets its contract.
 use Rattle.utf8.specs.Ascii.{ascii}
 use Rattle.words.specs.Words.{is}
 use Rattle.schema.specs.Schema.{geometryType}

@@ -1,4 +1,4 @@
--- `schema::is_shaped` meets its contract. Assumes nothing.
+-- `schema::is_shaped` meets its contract.
 use Rattle.schema.proofs.GeometryLaws.{geometric, shape-known, shape-told}
 use Rattle.schema.proofs.is_shaped.Statement.{statement}
 use Rattle.schema.proofs.is_shaped.Tie as tie

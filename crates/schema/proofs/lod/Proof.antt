@@ -1,4 +1,4 @@
--- `schema::lod` meets its contract. Assumes nothing.
+-- `schema::lod` meets its contract.
 use Rattle.words.specs.Words.{isLod}
 use Rattle.fields.specs.Laws.{at-node, string-node}
 use Rattle.schema.specs.Schema as schema

@@ -1,4 +1,4 @@
--- `schema::need_lod` meets its contract. Assumes nothing.
+-- `schema::need_lod` meets its contract.
 use Rattle.utf8.specs.Ascii.{ascii}
 use Rattle.words.specs.Words.{is}
 use Rattle.schema.proofs.GeometryLaws.{geometric, lod-spared, lod-needed}

@@ -1,4 +1,4 @@
--- `schema::object_type` meets its contract. Assumes nothing.
+-- `schema::object_type` meets its contract.
 use Rattle.fields.specs.Laws.{at-node, string-node}
 use Rattle.schema.specs.Schema.{objectType}
 use Rattle.schema.proofs.Objects.{root, found-nothing, found-some, code-at, type-other, type-listed, type-added, type-wrong, added-told}

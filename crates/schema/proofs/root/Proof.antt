@@ -1,4 +1,4 @@
--- `schema::root` meets its contract. Assumes nothing.
+-- `schema::root` meets its contract.
 use native.Mathlib.Omega.{arith}
 use mathlib.Core.Path.{refl}
 use Rattle.utf8.specs.Ascii.{ascii}

@@ -1,4 +1,4 @@
--- `schema::surface` meets its contract. Assumes nothing.
+-- `schema::surface` meets its contract.
 use mathlib.Core.Path.{refl}
 use Rattle.utf8.specs.Ascii.{ascii}
 use Rattle.shapes.specs.Laws.{seeks-find}

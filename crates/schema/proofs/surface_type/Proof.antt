@@ -1,4 +1,4 @@
--- `schema::surface_type` meets its contract. Assumes nothing.
+-- `schema::surface_type` meets its contract.
 use mathlib.Core.Path.{refl}
 use Rattle.fields.specs.Laws.{at-node, string-node}
 use Rattle.shapes.specs.Laws.{unless-yes}

@@ -1,4 +1,4 @@
--- `schema::too_many` meets its contract. Assumes nothing.
+-- `schema::too_many` meets its contract.
 use native.Mathlib.Omega.{arith}
 use Rattle.schema.proofs.Objects.{root}
 use Rattle.schema.proofs.Filling.{few-enough, name-first, name-low, one-more}

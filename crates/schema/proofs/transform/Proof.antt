@@ -1,8 +1,8 @@
--- `schema::transform` meets its contract. Assumes nothing.
+-- `schema::transform` meets its contract.
 use mathlib.Core.Path.{refl}
 use mathlib.Core.List.{[], _∷_}
 use Rattle.utf8.specs.Ascii.{ascii}
-use Rattle.shapes.specs.Checks.{isObject, needs, at}
+use Rattle.shapes.specs.Checks.{objectKind, needs, at}
 use Rattle.shapes.specs.Laws.{all-none, all-then, needs-none, needs-then, seeks-find}
 use Rattle.schema.specs.Schema.{threePairs}
 use Rattle.schema.specs.Schema as schema
@@ -32,7 +32,7 @@ returns-2 c =
     let scale = seeks-find "scale" refl (c .before .before .before .before .before .before .before .member .ensures) in
     let translate = seeks-find "translate" refl (c .before .before .before .before .before .member2 .ensures) in
     found-some _ schema.transform (c .before .before .before .before .before .before .before .before .before .before .found .given .1)
-    (all-then _ _ isObject (needs ("scale" ∷ "translate" ∷ []) ∷ at "scale" threePairs ∷ at "translate" threePairs ∷ []) (c .before .before .before .before .object .ensures)
+    (all-then _ _ objectKind (needs ("scale" ∷ "translate" ∷ []) ∷ at "scale" threePairs ∷ at "translate" threePairs ∷ []) (c .before .before .before .before .object .ensures)
     (all-then _ _ (needs ("scale" ∷ "translate" ∷ [])) (at "scale" threePairs ∷ at "translate" threePairs ∷ [])
     (needs-then _ _ "scale" ("translate" ∷ []) scale (c .before .before .before .need .ensures) (needs-then _ _ "translate" [] translate (c .before .before .need2 .ensures) needs-none))
     (all-then _ _ (at "scale" threePairs) (at "translate" threePairs ∷ []) (at-gives _ "scale" threePairs scale (c .before .found-pairs .ensures))

@@ -1,4 +1,4 @@
--- `schema::values` meets its contract. Assumes nothing.
+-- `schema::values` meets its contract.
 use Rattle.schema.specs.Schema as schema
 use Rattle.schema.proofs.GeometryLaws.{geometric, both-none, both-some, values-is}
 use Rattle.schema.proofs.values.Statement.{statement}

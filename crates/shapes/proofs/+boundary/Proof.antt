@@ -1,4 +1,4 @@
--- `shapes::boundary` meets its contract. The measure is the depth. Assumes nothing.
+-- `shapes::boundary` meets its contract. The measure is the depth.
 use Prim.Native.Nat.{ℕ, _-_, _<_}
 use native.Mathlib.Omega.{arith}
 use mathlib.Core.List.{_++_}
@@ -33,7 +33,7 @@ abbrev calls : ℕ → lts.Claims
 calls t = (leaf-reads.Asked, leaf-reads.Learnt, is-array-reads.Asked, is-array-reads.Learnt, unless-reads.Asked, unless-reads.Learnt, next-reads.Asked, next-reads.Learnt, below t, boundary.Post)
 
 abbrev Inv : lts.InvT-loop
-Inv text table i depth count best n least₀ k₀ least k = Pass (λ w. shape.shaped (depth - 1) w ++ shape.near count (depth - 1) w) text table i best n k least
+Inv text table i depth count best n least₀ k₀ least k = Pass (λ w. shape.shaped (depth - 1) w ++ shape.ranged count (depth - 1) w) text table i best n k least
 
 abbrev μ-loop : lts.MeasureT-loop
 μ-loop text table i depth count best n least₀ k₀ least k = n - k

@@ -1,4 +1,4 @@
--- `shapes::matches` meets its contract. The measure is the depth. Assumes nothing.
+-- `shapes::matches` meets its contract. The measure is the depth.
 use Prim.Native.Nat.{ℕ, _-_, _<_}
 use borrow.Fn.Kinds.{In}
 use borrow.Fn.PlainCycle.{Measures, is, falls, and}

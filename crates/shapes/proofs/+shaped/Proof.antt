@@ -1,4 +1,4 @@
--- `shapes::shaped` meets its contract. The measure is the depth. Assumes nothing.
+-- `shapes::shaped` meets its contract. The measure is the depth.
 use Prim.Native.Nat.{ℕ, _-_, _<_}
 use borrow.Fn.Kinds.{In}
 use borrow.Fn.PlainCycle.{Measures, is, falls, and}

@@ -1,4 +1,4 @@
--- `shapes::all_integers` meets its contract. Assumes nothing.
+-- `shapes::all_integers` meets its contract.
 use Rattle.shapes.proofs.Parts.{Integers}
 use Prim.Native.Nat.{_-_}
 use Rattle.shapes.proofs.Rules.{shapes}

@@ -1,4 +1,4 @@
--- `shapes::array` meets its contract. Assumes nothing.
+-- `shapes::array` meets its contract.
 use Rattle.shapes.specs.Laws.{array-is}
 use Rattle.shapes.proofs.Rules.{shapes}
 use Rattle.shapes.proofs.array.Statement.{statement}

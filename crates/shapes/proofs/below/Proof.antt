@@ -1,4 +1,4 @@
--- `shapes::below` meets its contract. Assumes nothing.
+-- `shapes::below` meets its contract.
 use Rattle.shapes.proofs.Parts.{below-none, below-is}
 use Rattle.shapes.proofs.Rules.{shapes}
 use Rattle.shapes.proofs.below.Statement.{statement}

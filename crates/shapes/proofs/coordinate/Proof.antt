@@ -1,4 +1,4 @@
--- `shapes::coordinate` meets its contract. Assumes nothing.
+-- `shapes::coordinate` meets its contract.
 use Rattle.shapes.proofs.Parts.{coordinate-none, coordinate-is}
 use Rattle.shapes.proofs.Rules.{shapes}
 use Rattle.shapes.proofs.coordinate.Statement.{statement}

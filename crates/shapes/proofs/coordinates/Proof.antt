@@ -1,4 +1,4 @@
--- `shapes::coordinates` meets its contract. Assumes nothing.
+-- `shapes::coordinates` meets its contract.
 use Rattle.shapes.specs.Shapes.{coordinate}
 use Rattle.shapes.specs.Laws.{Pass, pass-done}
 use Prim.Native.Nat.{_-_}

@@ -1,4 +1,4 @@
--- `shapes::is_integer` meets its contract. Assumes nothing.
+-- `shapes::is_integer` meets its contract.
 use Rattle.shapes.proofs.Rules.{shapes}
 use Rattle.shapes.proofs.is_integer.Statement.{statement}
 use Rattle.shapes.proofs.is_integer.Tie as tie

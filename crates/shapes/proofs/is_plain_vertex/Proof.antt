@@ -1,4 +1,4 @@
--- `shapes::is_plain_vertex` meets its contract. Assumes nothing.
+-- `shapes::is_plain_vertex` meets its contract.
 use Rattle.shapes.proofs.Triples.{plain-second, plain-third, plain-vertex}
 use Rattle.shapes.proofs.Rules.{shapes}
 use Rattle.shapes.proofs.is_plain_vertex.Statement.{statement}

@@ -1,4 +1,4 @@
--- `shapes::is_small` meets its contract. Assumes nothing.
+-- `shapes::is_small` meets its contract.
 use Rattle.shapes.proofs.Rules.{shapes}
 use Rattle.shapes.proofs.is_small.Statement.{statement}
 use Rattle.shapes.proofs.is_small.Tie as tie

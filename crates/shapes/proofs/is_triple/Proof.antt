@@ -1,4 +1,4 @@
--- `shapes::is_triple` meets its contract. Assumes nothing.
+-- `shapes::is_triple` meets its contract.
 use Rattle.shapes.proofs.Rules.{shapes}
 use Rattle.shapes.proofs.is_triple.Statement.{statement}
 use Rattle.shapes.proofs.is_triple.Tie as tie

@@ -1,4 +1,4 @@
--- `shapes::is_value` meets its contract. Assumes nothing.
+-- `shapes::is_value` meets its contract.
 use Rattle.shapes.proofs.Rules.{shapes}
 use Rattle.shapes.proofs.is_value.Statement.{statement}
 use Rattle.shapes.proofs.is_value.Tie as tie

@@ -1,11 +1,11 @@
--- `shapes::leaf` meets its contract. Assumes nothing.
+-- `shapes::leaf` meets its contract.
 use Rattle.shapes.proofs.Outline.{clears-best, leaf-no, leaf-yes}
 use Rattle.shapes.proofs.Rules.{shapes}
 use Rattle.shapes.proofs.leaf.Statement.{statement}
 use Rattle.shapes.proofs.leaf.Tie as tie
 
 returns : tie.Need-returns
-returns c = clears-best _ _ (c .before .is-near .ensures) (c .if1 .taken)
+returns c = clears-best _ _ (c .before .is-ranged .ensures) (c .if1 .taken)
 
 returns-2 : tie.Need-returns-2
 returns-2 c = leaf-no _ _ (c .before .before .is-integer .ensures) (c .before .if2 .taken) (c .unless .ensures)

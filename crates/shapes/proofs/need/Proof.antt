@@ -1,4 +1,4 @@
--- `shapes::need` meets its contract. Assumes nothing.
+-- `shapes::need` meets its contract.
 use Rattle.shapes.proofs.Rules.{shapes}
 use Rattle.shapes.proofs.need.Statement.{statement}
 use Rattle.shapes.proofs.need.Tie as tie

@@ -1,4 +1,4 @@
--- `shapes::number` meets its contract. Assumes nothing.
+-- `shapes::number` meets its contract.
 use Rattle.shapes.specs.Laws.{number-is}
 use Rattle.shapes.proofs.Rules.{shapes}
 use Rattle.shapes.proofs.number.Statement.{statement}

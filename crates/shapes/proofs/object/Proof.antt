@@ -1,4 +1,4 @@
--- `shapes::object` meets its contract. Assumes nothing.
+-- `shapes::object` meets its contract.
 use Rattle.shapes.specs.Laws.{object-is}
 use Rattle.shapes.proofs.Rules.{shapes}
 use Rattle.shapes.proofs.object.Statement.{statement}

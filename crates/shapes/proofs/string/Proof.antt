@@ -1,4 +1,4 @@
--- `shapes::string` meets its contract. Assumes nothing.
+-- `shapes::string` meets its contract.
 use Rattle.shapes.specs.Laws.{string-is}
 use Rattle.shapes.proofs.Rules.{shapes}
 use Rattle.shapes.proofs.string.Statement.{statement}

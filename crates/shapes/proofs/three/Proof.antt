@@ -1,4 +1,4 @@
--- `shapes::three` meets its contract. Assumes nothing.
+-- `shapes::three` meets its contract.
 use Rattle.shapes.proofs.Parts.{three-none, three-is}
 use Rattle.shapes.proofs.Rules.{shapes}
 use Rattle.shapes.proofs.three.Statement.{statement}

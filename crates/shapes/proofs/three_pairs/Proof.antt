@@ -1,4 +1,4 @@
--- `shapes::three_pairs` meets its contract. Assumes nothing.
+-- `shapes::three_pairs` meets its contract.
 use Rattle.shapes.proofs.Parts.{three-pairs-is}
 use Rattle.shapes.proofs.Rules.{shapes}
 use Rattle.shapes.proofs.three_pairs.Statement.{statement}

@@ -1,4 +1,4 @@
--- `shapes::unless` meets its contract. Assumes nothing.
+-- `shapes::unless` meets its contract.
 use Rattle.shapes.specs.Laws.{unless-yes, unless-no}
 use Rattle.shapes.proofs.Rules.{shapes}
 use Rattle.shapes.proofs.unless.Statement.{statement}

@@ -1,4 +1,4 @@
--- `shapes::vertex` meets its contract. Assumes nothing.
+-- `shapes::vertex` meets its contract.
 use Rattle.shapes.proofs.Outline.{clears-best}
 use Rattle.shapes.proofs.Parts.{vertex-no, vertex-is}
 use Rattle.shapes.proofs.Rules.{shapes}

@@ -1,4 +1,4 @@
--- `strings::apart` meets its contract. Assumes nothing.
+-- `strings::apart` meets its contract.
 use Rattle.strings.proofs.Rules.{scans}
 use Rattle.strings.proofs.apart.Statement.{statement}
 use Rattle.strings.proofs.apart.Tie as tie

@@ -1,4 +1,4 @@
--- `strings::character` meets its contract. Assumes nothing.
+-- `strings::character` meets its contract.
 use Rattle.strings.proofs.Rules.{strings}
 use Rattle.strings.proofs.character.Statement.{statement}
 use Rattle.strings.proofs.character.Tie as tie

@@ -1,4 +1,4 @@
--- `strings::copy` meets its contract. The loop: writing what is left gives what writing the whole string gives. Assumes nothing.
+-- `strings::copy` meets its contract. The loop: writing what is left gives what writing the whole string gives.
 use Prim.Native.Nat.{_-_}
 use Rattle.strings.specs.Spans.{Span, decodeAt}
 use Rattle.strings.proofs.Loops.{Writing}

@@ -1,4 +1,4 @@
--- `strings::copy_ahead` meets its contract. The loop: writing what the cursor has ahead gives what writing all of it gives. Assumes nothing.
+-- `strings::copy_ahead` meets its contract. The loop: writing what the cursor has ahead gives what writing all of it gives.
 use Rattle.strings.specs.Spans.{Span, ahead, away}
 use Rattle.strings.proofs.Loops.{Writing}
 use Rattle.strings.proofs.Rules.{turns}

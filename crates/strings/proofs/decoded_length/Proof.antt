@@ -1,4 +1,4 @@
--- `strings::decoded_length` meets its contract. The loop: what is counted and the length of what is left make the length, and no more is counted than bytes are passed. Assumes nothing.
+-- `strings::decoded_length` meets its contract. The loop: what is counted and the length of what is left make the length, and no more is counted than bytes are passed.
 use Prim.Native.Nat.{_+_, _≤_, _-_}
 use Rattle.strings.specs.Spans.{Span, decodeAt}
 use Rattle.strings.proofs.Loops.{Counting}

@@ -1,4 +1,4 @@
--- `strings::escape_at` meets its contract. Assumes nothing.
+-- `strings::escape_at` meets its contract.
 use Rattle.strings.proofs.Rules.{strings}
 use Rattle.strings.proofs.escape_at.Statement.{statement}
 use Rattle.strings.proofs.escape_at.Tie as tie

@@ -1,4 +1,4 @@
--- `strings::escape_from` meets its contract. The loop: no backslash so far. Assumes nothing.
+-- `strings::escape_from` meets its contract. The loop: no backslash so far.
 use Prim.Native.Nat.{_-_}
 use mathlib.Core.Path.{_≡_}
 use lib.ListN.{length, drop}

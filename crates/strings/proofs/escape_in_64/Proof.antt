@@ -1,4 +1,4 @@
--- `strings::escape_in_64` meets its contract. The loop: what was found, or what is still to be looked at, has a backslash. Assumes nothing.
+-- `strings::escape_in_64` meets its contract. The loop: what was found, or what is still to be looked at, has a backslash.
 use Prim.Native.Nat.{_+_, _-_, _≤_}
 use mathlib.Core.Path.{_≡_}
 use mathlib.Core.Bool.{_||_}

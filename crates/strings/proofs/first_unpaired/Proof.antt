@@ -1,4 +1,4 @@
--- `strings::first_unpaired` meets its contract. The loop: the first place of what is left is the first place of the string. Assumes nothing.
+-- `strings::first_unpaired` meets its contract. The loop: the first place of what is left is the first place of the string.
 use Prim.Native.Nat.{_-_}
 use mathlib.Core.Path.{_≡_}
 use Rattle.strings.specs.Spans.{Span, unpairedAt, firstOf}

@@ -1,4 +1,4 @@
--- `strings::four_digits` meets its contract. Assumes nothing.
+-- `strings::four_digits` meets its contract.
 use Rattle.strings.proofs.Rules.{strings}
 use Rattle.strings.proofs.four_digits.Statement.{statement}
 use Rattle.strings.proofs.four_digits.Tie as tie

@@ -1,4 +1,4 @@
--- `strings::fresh` meets its contract. Assumes nothing.
+-- `strings::fresh` meets its contract.
 use Rattle.strings.proofs.Rules.{strings}
 use Rattle.strings.proofs.fresh.Statement.{statement}
 use Rattle.strings.proofs.fresh.Tie as tie

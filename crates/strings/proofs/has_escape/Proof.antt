@@ -1,4 +1,4 @@
--- `strings::has_escape` meets its contract. The loop: no backslash so far. Assumes nothing.
+-- `strings::has_escape` meets its contract. The loop: no backslash so far.
 use Prim.Native.Nat.{_-_, _≤_}
 use mathlib.Core.Path.{_≡_}
 use lib.ListN.{length, drop}

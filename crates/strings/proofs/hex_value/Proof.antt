@@ -1,4 +1,4 @@
--- `strings::hex_value` meets its contract. Assumes nothing.
+-- `strings::hex_value` meets its contract.
 use Rattle.strings.proofs.Rules.{strings}
 use Rattle.strings.proofs.hex_value.Statement.{statement}
 use Rattle.strings.proofs.hex_value.Tie as tie

@@ -1,4 +1,4 @@
--- `strings::is_word` meets its contract. Assumes nothing.
+-- `strings::is_word` meets its contract.
 use Rattle.strings.proofs.Rules.{scans}
 use Rattle.strings.proofs.is_word.Statement.{statement}
 use Rattle.strings.proofs.is_word.Tie as tie

@@ -1,4 +1,4 @@
--- `strings::is_word_ahead` meets its contract. The loop: the answer is that of comparing what is left of the word with what the cursor has ahead. Assumes nothing.
+-- `strings::is_word_ahead` meets its contract. The loop: the answer is that of comparing what is left of the word with what the cursor has ahead.
 use Prim.Native.Nat.{_≤_}
 use mathlib.Core.Path.{_≡_}
 use lib.ListN.{length, drop}

@@ -1,4 +1,4 @@
--- `strings::is_word_decoded` meets its contract. The loop: the answer is that of comparing what is left of the word with what is left of the string. Assumes nothing.
+-- `strings::is_word_decoded` meets its contract. The loop: the answer is that of comparing what is left of the word with what is left of the string.
 use Prim.Native.Nat.{_≤_, _-_}
 use mathlib.Core.Path.{_≡_}
 use lib.ListN.{length, drop}

@@ -1,4 +1,4 @@
--- `strings::low_at` meets its contract. Assumes nothing.
+-- `strings::low_at` meets its contract.
 use Rattle.strings.proofs.Rules.{strings}
 use Rattle.strings.proofs.low_at.Statement.{statement}
 use Rattle.strings.proofs.low_at.Tie as tie

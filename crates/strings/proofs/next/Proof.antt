@@ -1,4 +1,4 @@
--- `strings::next` meets its contract. Assumes nothing.
+-- `strings::next` meets its contract.
 use Rattle.strings.proofs.Rules.{strings}
 use Rattle.strings.proofs.next.Statement.{statement}
 use Rattle.strings.proofs.next.Tie as tie

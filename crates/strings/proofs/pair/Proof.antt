@@ -1,4 +1,4 @@
--- `strings::pair` meets its contract. Assumes nothing.
+-- `strings::pair` meets its contract.
 use Rattle.strings.proofs.Rules.{strings}
 use Rattle.strings.proofs.pair.Statement.{statement}
 use Rattle.strings.proofs.pair.Tie as tie

@@ -1,4 +1,4 @@
--- `strings::same_ahead` meets its contract. The loop: the answer is that of comparing what the two cursors have ahead. Assumes nothing.
+-- `strings::same_ahead` meets its contract. The loop: the answer is that of comparing what the two cursors have ahead.
 use mathlib.Core.Path.{_≡_}
 use Rattle.utf8.specs.Utf8.{same}
 use Rattle.strings.specs.Spans.{Span, ahead, away}

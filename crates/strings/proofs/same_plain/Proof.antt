@@ -1,4 +1,4 @@
--- `strings::same_plain` meets its contract. The loop: the answer is that of comparing what is left of the two strings. Assumes nothing.
+-- `strings::same_plain` meets its contract. The loop: the answer is that of comparing what is left of the two strings.
 use Prim.Native.Nat.{_+_, _-_}
 use mathlib.Core.Path.{_≡_}
 use Rattle.utf8.specs.Utf8.{same}

@@ -1,4 +1,4 @@
--- `strings::same_string` meets its contract. Assumes nothing.
+-- `strings::same_string` meets its contract.
 use Rattle.strings.proofs.Rules.{scans}
 use Rattle.strings.proofs.same_string.Statement.{statement}
 use Rattle.strings.proofs.same_string.Tie as tie

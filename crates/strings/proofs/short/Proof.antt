@@ -1,4 +1,4 @@
--- `strings::short` meets its contract. Assumes nothing.
+-- `strings::short` meets its contract.
 use Rattle.strings.proofs.Rules.{strings}
 use Rattle.strings.proofs.short.Statement.{statement}
 use Rattle.strings.proofs.short.Tie as tie

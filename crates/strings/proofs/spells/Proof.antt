@@ -1,4 +1,4 @@
--- `strings::spells` meets its contract. The loop: the answer is that of comparing what is left of the word with what is left of the bytes. Assumes nothing.
+-- `strings::spells` meets its contract. The loop: the answer is that of comparing what is left of the word with what is left of the bytes.
 use Prim.Native.Nat.{_+_, _-_, _≤_}
 use mathlib.Core.Path.{_≡_}
 use lib.ListN.{length, drop}

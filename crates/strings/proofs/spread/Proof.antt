@@ -1,4 +1,4 @@
--- `strings::spread` meets its contract. Assumes nothing.
+-- `strings::spread` meets its contract.
 use Rattle.strings.proofs.Rules.{strings}
 use Rattle.strings.proofs.spread.Statement.{statement}
 use Rattle.strings.proofs.spread.Tie as tie

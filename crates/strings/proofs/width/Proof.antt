@@ -1,4 +1,4 @@
--- `strings::width` meets its contract. Assumes nothing.
+-- `strings::width` meets its contract.
 use Rattle.strings.proofs.Rules.{strings}
 use Rattle.strings.proofs.width.Statement.{statement}
 use Rattle.strings.proofs.width.Tie as tie

@@ -1,4 +1,4 @@
--- `utf8::all_ascii` meets its contract. Assumes nothing.
+-- `utf8::all_ascii` meets its contract.
 use Rattle.utf8.proofs.Rules.{chars}
 use Rattle.utf8.proofs.all_ascii.Statement.{statement}
 use Rattle.utf8.proofs.all_ascii.Tie as tie

@@ -1,4 +1,4 @@
--- `utf8::character` meets its contract. Assumes nothing.
+-- `utf8::character` meets its contract.
 use Rattle.utf8.proofs.Rules.{chars}
 use Rattle.utf8.proofs.character.Statement.{statement}
 use Rattle.utf8.proofs.character.Tie as tie

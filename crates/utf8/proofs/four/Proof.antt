@@ -1,4 +1,4 @@
--- `utf8::four` meets its contract. Assumes nothing.
+-- `utf8::four` meets its contract.
 use Rattle.utf8.proofs.Rules.{chars}
 use Rattle.utf8.proofs.four.Statement.{statement}
 use Rattle.utf8.proofs.four.Tie as tie

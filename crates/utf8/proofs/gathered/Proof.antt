@@ -1,4 +1,4 @@
--- `utf8::gathered` meets its contract. The loop: none of the bytes so far is above the byte that is gathered. Assumes nothing.
+-- `utf8::gathered` meets its contract. The loop: none of the bytes so far is above the byte that is gathered.
 use Prim.Native.Nat.{_+_, _-_, _≤_}
 use lib.ListN.{length}
 use Rattle.utf8.specs.Says.{Under}

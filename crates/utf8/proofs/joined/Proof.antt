@@ -1,4 +1,4 @@
--- `utf8::joined` meets its contract. Assumes nothing.
+-- `utf8::joined` meets its contract.
 use native.Mathlib.Omega.{arith}
 use lib.Bits.{or-add-and, and-le-l, and-le-r}
 use Rattle.utf8.proofs.joined.Statement.{statement}

@@ -1,4 +1,4 @@
--- `utf8::step` meets its contract. Assumes nothing.
+-- `utf8::step` meets its contract.
 use Rattle.utf8.proofs.Rules.{chars}
 use Rattle.utf8.proofs.step.Statement.{statement}
 use Rattle.utf8.proofs.step.Tie as tie

@@ -1,4 +1,4 @@
--- `utf8::three` meets its contract. Assumes nothing.
+-- `utf8::three` meets its contract.
 use Rattle.utf8.proofs.Rules.{chars}
 use Rattle.utf8.proofs.three.Statement.{statement}
 use Rattle.utf8.proofs.three.Tie as tie

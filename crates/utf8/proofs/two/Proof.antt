@@ -1,4 +1,4 @@
--- `utf8::two` meets its contract. Assumes nothing.
+-- `utf8::two` meets its contract.
 use Rattle.utf8.proofs.Rules.{chars}
 use Rattle.utf8.proofs.two.Statement.{statement}
 use Rattle.utf8.proofs.two.Tie as tie

@@ -1,4 +1,4 @@
--- `utf8::whole` meets its contract. Assumes nothing.
+-- `utf8::whole` meets its contract.
 use Prim.Native.Nat.{_-_}
 use lib.ListN.{length}
 use Rattle.utf8.proofs.Places.{Reached}

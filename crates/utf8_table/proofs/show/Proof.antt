@@ -1,4 +1,4 @@
--- `utf8_table::show` meets its contract: it is safe, and ends. Assumes nothing.
+-- `utf8_table::show` meets its contract: it is safe, and ends.
 use Prim.Native.Nat.{_≤_, _-_}
 use borrow.Author.Needs.{needs}
 use lib.ListN.{length}

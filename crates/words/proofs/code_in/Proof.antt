@@ -1,4 +1,4 @@
--- `words::code_in` meets its contract. The loop: the number of the word among those that are left is its number among all. Assumes nothing.
+-- `words::code_in` meets its contract. The loop: the number of the word among those that are left is its number among all.
 use Prim.Native.Nat.{_-_}
 use lib.ListN.{length}
 use Rattle.strings.specs.Spans.{Span, decodeAt}

@@ -1,4 +1,4 @@
--- `words::depth_of` meets its contract. The table is that of the definition. Assumes nothing.
+-- `words::depth_of` meets its contract. The table is that of the definition.
 use mathlib.Core.Path.{refl}
 use Rattle.words.specs.Words.{depth}
 use Rattle.words.proofs.Rules.{words}

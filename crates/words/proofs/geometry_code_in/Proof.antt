@@ -1,4 +1,4 @@
--- `words::geometry_code_in` meets its contract. The table is that of the words, by computation. Assumes nothing.
+-- `words::geometry_code_in` meets its contract. The table is that of the words, by computation.
 use mathlib.Core.Path.{refl}
 use Rattle.words.specs.Words.{geometryWords}
 use Rattle.words.specs.Tables.{wordsIn, inOrder, spelled}

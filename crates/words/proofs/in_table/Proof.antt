@@ -1,4 +1,4 @@
--- `words::in_table` meets its contract. Assumes nothing.
+-- `words::in_table` meets its contract.
 use Rattle.words.proofs.Rules.{words}
 use Rattle.words.proofs.in_table.Statement.{statement}
 use Rattle.words.proofs.in_table.Tie as tie

@@ -1,4 +1,4 @@
--- `words::is_added` meets its contract. Assumes nothing.
+-- `words::is_added` meets its contract.
 use Rattle.words.proofs.Rules.{words}
 use Rattle.words.proofs.is_added.Statement.{statement}
 use Rattle.words.proofs.is_added.Tie as tie

@@ -1,4 +1,4 @@
--- `words::is_added_name` meets its contract. Assumes nothing.
+-- `words::is_added_name` meets its contract.
 use Rattle.words.proofs.Rules.{words}
 use Rattle.words.proofs.is_added_name.Statement.{statement}
 use Rattle.words.proofs.is_added_name.Tie as tie

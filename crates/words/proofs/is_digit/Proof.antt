@@ -1,4 +1,4 @@
--- `words::is_digit` meets its contract. Assumes nothing.
+-- `words::is_digit` meets its contract.
 use Rattle.words.proofs.Rules.{words}
 use Rattle.words.proofs.is_digit.Statement.{statement}
 use Rattle.words.proofs.is_digit.Tie as tie

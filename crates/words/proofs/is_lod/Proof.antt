@@ -1,4 +1,4 @@
--- `words::is_lod` meets its contract. Assumes nothing.
+-- `words::is_lod` meets its contract.
 use Rattle.words.proofs.Rules.{words}
 use Rattle.words.proofs.is_lod.Statement.{statement}
 use Rattle.words.proofs.is_lod.Tie as tie

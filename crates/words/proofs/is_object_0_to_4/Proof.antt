@@ -1,4 +1,4 @@
--- `words::is_object_0_to_4` meets its contract. Each word is that of its place, by computation. Assumes nothing.
+-- `words::is_object_0_to_4` meets its contract. Each word is that of its place, by computation.
 use mathlib.Core.Path.{refl}
 use Rattle.utf8.specs.Laws.{never}
 use Rattle.utf8.specs.Ascii.{ascii}

@@ -1,4 +1,4 @@
--- `words::is_object_at` meets its contract. Assumes nothing.
+-- `words::is_object_at` meets its contract.
 use mathlib.Core.Path.{refl}
 use Rattle.utf8.specs.Laws.{never}
 use Rattle.words.proofs.Rules.{words}

@@ -1,4 +1,4 @@
--- `words::may_be_second_level` meets its contract. Assumes nothing.
+-- `words::may_be_second_level` meets its contract.
 use Rattle.words.proofs.Rules.{words}
 use Rattle.words.proofs.may_be_second_level.Statement.{statement}
 use Rattle.words.proofs.may_be_second_level.Tie as tie

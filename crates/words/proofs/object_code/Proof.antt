@@ -1,4 +1,4 @@
--- `words::object_code` meets its contract. The guess needs no proof: what it finds is checked. Assumes nothing.
+-- `words::object_code` meets its contract. The guess needs no proof: what it finds is checked.
 use native.Mathlib.Omega.{arith}
 use Rattle.words.specs.Words.{objectWords}
 use Rattle.words.proofs.Guess.{guess-within}

@@ -1,4 +1,4 @@
--- `words::permitted` meets its contract. The table is that of the rule, by computation. Assumes nothing.
+-- `words::permitted` meets its contract. The table is that of the rule, by computation.
 use mathlib.Core.Path.{refl}
 use Rattle.words.specs.Tables.{tabled}
 use Rattle.words.proofs.Rules.{words}

@@ -1,4 +1,4 @@
--- `words::values_depth_of` meets its contract. The table is that of the definition. Assumes nothing.
+-- `words::values_depth_of` meets its contract. The table is that of the definition.
 use mathlib.Core.Path.{refl}
 use Rattle.words.specs.Words.{valuesDepth}
 use Rattle.words.proofs.Rules.{words}

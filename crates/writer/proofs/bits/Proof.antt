@@ -1,4 +1,4 @@
--- `writer::bits` meets its contract. Assumes nothing.
+-- `writer::bits` meets its contract.
 use Rattle.writer.proofs.Rules.{signs}
 use Rattle.writer.proofs.Signs.{plain-cast, flipped-cast}
 use Rattle.writer.proofs.bits.Statement.{statement}

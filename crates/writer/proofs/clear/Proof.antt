@@ -1,4 +1,4 @@
--- `writer::clear` meets its contract. The bytes before i are 0, the others are as they were. Assumes nothing.
+-- `writer::clear` meets its contract. The bytes before i are 0, the others are as they were.
 use Prim.Native.Nat.{_-_}
 use lib.ListN.{length}
 use Rattle.writer.proofs.Fills.{Cleared}

@@ -1,4 +1,4 @@
--- `writer::close` meets its contract. Assumes nothing.
+-- `writer::close` meets its contract.
 use Rattle.writer.proofs.Rules.{writes}
 use Rattle.writer.proofs.close.Statement.{statement}
 use Rattle.writer.proofs.close.Tie as tie

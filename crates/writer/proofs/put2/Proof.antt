@@ -1,4 +1,4 @@
--- `writer::put2` meets its contract. Assumes nothing.
+-- `writer::put2` meets its contract.
 use Rattle.writer.proofs.Rules.{writes}
 use Rattle.writer.proofs.put2.Statement.{statement}
 use Rattle.writer.proofs.put2.Tie as tie

@@ -1,4 +1,4 @@
--- `writer::string` meets its contract. Assumes nothing.
+-- `writer::string` meets its contract.
 use Rattle.writer.proofs.Rules.{writes}
 use Rattle.writer.proofs.string.Statement.{statement}
 use Rattle.writer.proofs.string.Tie as tie

@@ -44,7 +44,7 @@ const OTHER_SURFACES: [&str; 6] = [
 ];
 
 /// A quarter of up to `most` objects.
-pub fn quarter(random: &mut Random, most: usize) -> Model {
+pub fn city_model(random: &mut Random, most: usize) -> Model {
     let vertices = vertices(random);
     let count = random.between(0, most);
     let mut objects: Vec<Object> = Vec::new();
