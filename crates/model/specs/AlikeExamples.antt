@@ -1,7 +1,7 @@
 -- Texts that are alike and texts that are not (document 01, "Town and sheet"), by computation.
 use mathlib.Core.Path.{_≡_, refl, ap}
 use mathlib.Core.List.{List, _++_, map}
-use mathlib.Core.Bool.{false}
+use mathlib.Core.Bool.{Bool, true, false}
 use Prim.Native.Nat.{ℕ}
 use Prim.Native.String.{String}
 use lib.IntN.{ℤ}
@@ -12,10 +12,11 @@ use Rattle.strings.specs.Strings.{decode}
 use Rattle.numerals.specs.Numerals.{decimal, wholeOf}
 use Rattle.json.specs.Tree.{Json, _◂_, with}
 use Rattle.json.specs.Machine.{treeOf, step, wantStep, gotStep, nextStep, nameStep, mantStep, noughtStep, isBlank, isHex, isEscape}
-use Rattle.nodes.specs.Access.{listed, elements, members, textOf, find}
+use Rattle.nodes.specs.Access.{isNullValue, isNumberValue, isStringValue, isArrayValue, listed, elements, members, nameOf, textOf, numeralOf, find}
 use Rattle.model.specs.Model.{Three}
 use Rattle.model.specs.Read.{get, orNull, maybeDecimal, zeroIfNone, decimalOf, integerOf, natural, threeOf, modelOf}
-use Rattle.model.specs.Alike.{Same, Agree, surfaceShape, semanticsShape, geometryShape, objectShape, transformShape, rootShape, Alike, same-text, alike-same-model}
+use Rattle.model.specs.Alike.{Agree, surfaceShape, semanticsShape, geometryShape, objectShape, transformShape, rootShape, Alike, same-text, alike-same-model}
+use Rattle.model.specs.AlikeTest.{agrees, agrees-agree}
 
 -- ---- the texts
 
@@ -53,59 +54,27 @@ building-respelled =
 -- ---- alike
 
 -- opening this opens all that a tree and what is looked up in it need
-unfoldable pub reading : List ℕ → Json
+unfoldable reading : List ℕ → Json
 unfolding treeOf step wantStep gotStep nextStep nameStep mantStep noughtStep isBlank isDigit isHex isEscape _◂_ with listed elements members find decode decimal
 reading text = treeOf text
 
-infixr 50 _&_
-_&_ : {A B : Type 0} → A → B → A × B
-a & b = (a, b)
+-- and this all that the test of two texts needs
+unfoldable passes : List ℕ → List ℕ → Bool
+unfolding reading agrees same nameOf textOf numeralOf isNullValue isNumberValue isStringValue isArrayValue
+    rootShape transformShape objectShape geometryShape semanticsShape surfaceShape
+passes x y = agrees rootShape (treeOf x) (treeOf y)
 
--- A string or a number that agrees is (_, _, _, refl, refl), null is (_, _, refl), an array is (_, _, _, refl, ..) with its elements;
--- a member that both lack is tt, and so is the end of a list.
+passes-alike : (x y : List ℕ) → passes x y ≡ true → Alike (treeOf x) (treeOf y)
+unfolding Alike passes
+passes-alike x y t = agrees-agree rootShape (treeOf x) (treeOf y) t
+
 pub bare-alike : Alike (treeOf bare) (treeOf bare-respelled)
-unfolding Alike Agree Same rootShape transformShape bare bare-respelled reading
-bare-alike =
-    (_, _, _, refl, refl) & (_, _, _, refl, refl)
-    & ((_, _, _, refl, (_, _, _, refl, refl) & (_, _, _, refl, refl) & (_, _, _, refl, refl) & tt)
-    & (_, _, _, refl, (_, _, _, refl, refl) & (_, _, _, refl, refl) & (_, _, _, refl, refl) & tt) & tt)
-    & tt
-    & (_, _, _, refl, tt) & tt
+unfolding passes bare bare-respelled
+bare-alike = passes-alike bare bare-respelled refl
 
 pub building-alike : Alike (treeOf building) (treeOf building-respelled)
-unfolding Alike Agree Same rootShape transformShape objectShape geometryShape semanticsShape surfaceShape building building-respelled reading
-building-alike =
-    (_, _, _, refl, refl) & (_, _, _, refl, refl)
-    & ((_, _, _, refl, (_, _, _, refl, refl) & (_, _, _, refl, refl) & (_, _, _, refl, refl) & tt)
-    & (_, _, _, refl, (_, _, _, refl, refl) & (_, _, _, refl, refl) & (_, _, _, refl, refl) & tt) & tt)
-    & ((refl, (_, _, _, refl, refl) & (_, _, _, refl, (_, _, _, refl, refl) & tt) & tt & tt & tt)
-    & (
-      refl,
-      (_, _, _, refl, refl) & tt & (_, _, _, refl, (_, _, _, refl, refl) & tt)
-          & (((_, _, _, refl, refl) & (_, _, _, refl, refl)
-          & (
-            _,
-            _,
-            _,
-            refl,
-            (_, _, _, refl, (_, _, _, refl, (_, _, _, refl, refl) & (_, _, _, refl, refl) & (_, _, _, refl, refl) & tt) & tt)
-                & (_, _, _, refl, (_, _, _, refl, (_, _, _, refl, refl) & (_, _, _, refl, refl) & (_, _, _, refl, refl) & tt) & tt) & tt,
-          )
-          & ((((_, _, _, refl, refl) & tt) & tt) & (_, _, _, refl, (_, _, _, refl, refl) & (_, _, refl) & tt) & tt)
-          & tt) & tt)
-          & tt,
-    )
-    & tt)
-    & (
-      _,
-      _,
-      _,
-      refl,
-      (_, _, _, refl, (_, _, _, refl, refl) & (_, _, _, refl, refl) & (_, _, _, refl, refl) & tt)
-          & (_, _, _, refl, (_, _, _, refl, refl) & (_, _, _, refl, refl) & (_, _, _, refl, refl) & tt)
-          & (_, _, _, refl, (_, _, _, refl, refl) & (_, _, _, refl, refl) & (_, _, _, refl, refl) & tt) & tt,
-    )
-    & tt
+unfolding passes building building-respelled
+building-alike = passes-alike building building-respelled refl
 
 -- ---- not alike
 

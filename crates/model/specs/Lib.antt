@@ -10,5 +10,6 @@ pub mod Weigh
 pub mod Demand
 pub mod Alike
 pub mod AlikeLaws
+pub mod AlikeTest
 pub mod AlikeExamples
 pub mod Size
