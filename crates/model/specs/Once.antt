@@ -61,14 +61,14 @@ nest-unique : (d : ℕ) → Unique (FitNest d) (layNest d)
 unfolding layNest
 nest-unique zero a b ga gb x y e = le-unique 4 a b ga gb x y e
 nest-unique (suc d) a b ga gb x y e =
-    let n = le-unique 4 (length a) (length b) (ga .0) (gb .0) _ _ (simp append-assoc at e) in
-    each-same (FitNest d) (layNest d) (nest-unique d) a b (ga .1) (gb .1) (n .0) x y (n .1)
+    let n = le-unique 4 _ _ (omega (arith, ga .0)) (omega (arith, gb .0)) _ _ (simp append-assoc at e) in
+    each-same (FitNest d) (layNest d) (nest-unique d) a b (ga .1) (gb .1) (omega (arith, n .0)) x y (n .1)
 
 value-unique : Unique FitValue layValue
 unfolding layValue
-value-unique none none ga gb x y e = let r = le-unique 4 0xffff_ffff 0xffff_ffff (omega arith) (omega arith) x y e in (refl, r .1)
-value-unique none (some n) ga gb x y e = let r = le-unique 4 0xffff_ffff n (omega arith) (omega arith) x y e in absurd (omega arith)
-value-unique (some n) none ga gb x y e = let r = le-unique 4 n 0xffff_ffff (omega arith) (omega arith) x y e in absurd (omega arith)
+value-unique none none ga gb x y e = let r = le-unique 4 _ _ (omega arith) (omega arith) x y e in (refl, r .1)
+value-unique none (some n) ga gb x y e = let r = le-unique 4 _ n (omega arith) (omega arith) x y e in absurd (omega arith)
+value-unique (some n) none ga gb x y e = let r = le-unique 4 n _ (omega arith) (omega arith) x y e in absurd (omega arith)
 value-unique (some n) (some k) ga gb x y e = let r = le-unique 4 n k (omega arith) (omega arith) x y e in (ap some (r .0), r .1)
 
 -- values over one boundary have one shape, so their order is enough
@@ -97,9 +97,9 @@ values-unique (suc d) (suc v) b p q sp sq gp gq x y e =
 surface-inj : (a b : Surface) → FitSurface a → FitSurface b → laySurface a ≡ laySurface b → a ≡ b
 unfolding laySurface
 surface-inj (listed c) (listed d) ga gb e = let r = le-unique 2 c d (omega arith) (omega arith) [] [] (ap (λ l. l ++ []) e) in ap listed (r .0)
-surface-inj (listed c) (added n) ga gb e = let r = le-unique 2 c 19 (omega arith) (omega arith) [] n (append-nil (le 2 c) ∙ e) in absurd (omega arith)
-surface-inj (added n) (listed c) ga gb e = let r = le-unique 2 19 c (omega arith) (omega arith) n [] (e ∙ sym (append-nil (le 2 c))) in absurd (omega arith)
-surface-inj (added n) (added m) ga gb e = let r = le-unique 2 19 19 (omega arith) (omega arith) n m e in ap added (r .1)
+surface-inj (listed c) (added n) ga gb e = let r = le-unique 2 c 19 (omega arith) (omega arith) [] _ (append-nil (le 2 c) ∙ e) in absurd (omega arith)
+surface-inj (added n) (listed c) ga gb e = let r = le-unique 2 19 c (omega arith) (omega arith) _ [] (e ∙ sym (append-nil (le 2 c))) in absurd (omega arith)
+surface-inj (added n) (added m) ga gb e = let r = le-unique 2 19 19 (omega arith) (omega arith) _ _ e in ap added (r .1)
 
 -- what comes next is a record of one of these kinds
 oneOf : List ℕ → ℕ → Bool

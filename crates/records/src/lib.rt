@@ -1,4 +1,4 @@
-// Writes the records of an accepted text's sheet from its node table, as far as they fit.
+// Writes the records of an accepted text's sheet from its node table. If they do not fit, a part of them may be written; the cursor tells.
 // Each function takes the cursor at which it is to write and gives the one after.
 use fields::Index;
 use nodes::Found;
