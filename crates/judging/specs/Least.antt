@@ -3,7 +3,7 @@ use Prim.Native.Nat.{ℕ, zero, suc, _*_, _≤_, _<_, min}
 use native.Mathlib.Omega.{arith}
 use native.Mathlib.Decide.{decLt}
 use mathlib.Core.Path.{_≡_, refl, sym, ap, _∙_}
-use mathlib.Core.List.{List, [], _∷_, _++_, map}
+use mathlib.Core.List.{List, [], _∷_, _++_, map, map-eq-nil-iff}
 use mathlib.Core.Logic.{_⊎_, inl, inr}
 use mathlib.Core.Option.{Option, some}
 use mathlib.Core.Option as option
@@ -44,12 +44,6 @@ unfolding least
 nothing lo hi b [] a h = refl
 nothing lo hi b (f ∷ fs) a h = absurd (omega (arith, a .0 .1, least-best (min b f) fs))
 
--- ---- lists with no element
-
-unmapped : (f : ℕ → ℕ) (l : List ℕ) → map f l ≡ [] → l ≡ []
-unmapped f [] e = refl
-unmapped f (a ∷ l) e = cc
-
 -- ---- a tree
 
 -- the passes of the rules 5 to 14, one after the other
@@ -76,7 +70,7 @@ module _ (v : Json) (d : Placed v) where
 
   -- no fault of the rules 5 to 14: none of rule 6
   pub no-repeat : {c : ℕ} → c ≡ least noFault (early v) → noFault ≤ c → rule6 v ≡ []
-  no-repeat p h = unmapped (fault 6) (rule6 v) (nil-right (map (fault 5) (rule5 v)) _ (nil-left _ (cityJson v) (nothing 5 15 noFault (early v) (early-among v d) (omega arith))))
+  no-repeat p h = map-eq-nil-iff (fault 6) .0 (nil-right (map (fault 5) (rule5 v)) _ (nil-left _ (cityJson v) (nothing 5 15 noFault (early v) (early-among v d) (omega arith))))
 
   -- and none of the schema
   pub no-schema : {c : ℕ} → c ≡ least noFault (early v) → noFault ≤ c → cityJson v ≡ []

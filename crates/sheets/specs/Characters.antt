@@ -3,9 +3,9 @@
 use Prim.Native.Nat.{ℕ, _+_, _-_}
 use Prim.Native.String.{String}
 use native.Mathlib.Omega.{arith}
-use mathlib.Core.Path.{_≡_, refl, sym, subst}
+use mathlib.Core.Path.{_≡_, sym, subst}
 use mathlib.Core.Bool.{Bool, true, false, cond}
-use mathlib.Core.List.{List, [], _∷_, _++_, map, List·Memᴰ, List·Memᴰ·head, List·Memᴰ·tail}
+use mathlib.Core.List.{List, [], _∷_, _++_, map, map-eq-nil-iff, List·Memᴰ, List·Memᴰ·head, List·Memᴰ·tail}
 use mathlib.Core.Option.{Option, some, Option·map}
 use mathlib.Core.Option as option
 use lib.ListN.{getD}
@@ -13,7 +13,7 @@ use lib.Dec.{eqb}
 use lib.Seq.{slice}
 use Rattle.utf8.specs.Utf8.{Whole, same}
 use Rattle.utf8.specs.Utf8.Whole.{nil}
-use Rattle.utf8.specs.Laws.{clash, nil-left, nil-right}
+use Rattle.utf8.specs.Laws.{nil-left, nil-right}
 use Rattle.utf8.specs.Splits.{whole-text, whole-between}
 use Rattle.strings.specs.Strings.{decode, unpairedFrom}
 use Rattle.strings.specs.Characters.{whole-decode}
@@ -94,17 +94,13 @@ unfolding rule5
 strings-whole {x = x} {v = v} w t e =
     all-both (InQuotes x) Paired WholeName (string-whole w) (strings v) (text-quoted t) (each-paired (strings v) e)
 
-map-nil : (r : ℕ) (l : List ℕ) → map (fault r) l ≡ [] → l ≡ []
-map-nil r [] e = refl
-map-nil r (p ∷ l) e = clash cc
-
 -- a tree with no fault keeps rule 5
 clean-rule5 : (v : Json) → faults v ≡ [] → rule5 v ≡ []
 unfolding faults
 clean-rule5 v e =
     let a = map (fault 5) (rule5 v) in
     let b = map (fault 6) (rule6 v) in
-    map-nil 5 (rule5 v) (nil-left a b (nil-left (a ++ b) (cityJson v) (nil-left (a ++ b ++ cityJson v) (linkFaults v) e)))
+    map-eq-nil-iff (fault 5) .0 (nil-left a b (nil-left (a ++ b) (cityJson v) (nil-left (a ++ b ++ cityJson v) (linkFaults v) e)))
 
 -- the strings and names of an accepted text
 texts-whole : (x : List ℕ) (n : ℕ) → verdict x ≡ accepted n → All WholeName (strings (treeOf x))

@@ -125,7 +125,7 @@ alike-reflexive x n e = alike-self (treeOf x) (distinct-names x n e)
 pub alike-symmetric : (x y : List ℕ) (n : ℕ) → verdict x ≡ accepted n → Alike (treeOf x) (treeOf y) → Alike (treeOf y) (treeOf x)
 alike-symmetric x y n e a = alike-sym (treeOf x) (treeOf y) (distinct-names x n e) a
 
--- so if both are accepted, they have the same answer and leave the same bytes, in every room
+-- two alike texts that are accepted have the same answer and leave the same bytes, in every room
 pub alike-rooms : (x y : List ℕ) (n m r : ℕ) → verdict x ≡ accepted n → verdict y ≡ accepted m → Alike (treeOf x) (treeOf y) → (answer x r ≡ answer y r) × (roomAfter x r ≡ roomAfter y r)
 alike-rooms x y n m r e f a =
     let (p, q) = alike x y a in
