@@ -29,7 +29,7 @@ use Rattle.refusals.specs.declared.Broken.the-variants as broken
 use Rattle.judging.specs.declared.Screened.the-variants as screened
 use Rattle.judging.specs.declared.Opened.{Opened}
 use Rattle.judging.specs.declared.Opened.the-variants as opened
-use Rattle.judging.specs.Judging.{screening, screenedAs, opening, openedAs, Room, Stands, Holds, Opens, Examined}
+use Rattle.judging.specs.Judging.{screening, screenedAs, opening, openedAs, Room, Stands, TreeIn, Opens, Examined}
 use Rattle.judging.specs.Laws.{passed-short, passed-judged, screened-refused, opened-tree, opened-refused, table-refused, table-accepted}
 use Rattle.judging.specs.Least.{early-passes, all-passes, before-links, no-repeat, no-schema, from-five, few-objects}
 use Rattle.judging.proofs.Alone.{alone}
@@ -57,7 +57,7 @@ module _ (x t₀ t : List ℕ) {r : Parsed} (h : Tells x t₀ t r) where
   unfolding Tells openedAs opening
   open-tree {n} e =
       let s = subst (Tells x t₀ t) e h in
-      let m : Holds x t₀ t n = record { tree = record { value = s .value; short = s .short; reads = s .reads; stands = s .stands; ends = s .ends }; rest = s .rest } in
+      let m : TreeIn x t₀ t n = record { tree = record { value = s .value; short = s .short; reads = s .reads; stands = s .stands; ends = s .ends }; rest = s .rest } in
       record { is = rw (s .reads, s .ends); holds = λ k q. let z : n ≡ k = cc in rw (← z) m }
 
   pub open-bad : {p : ℕ} → r ≡ parse.Bad p → Opens x t₀ t (opened.Refused (record { rule = broken.NotJson; place = p }))

@@ -68,14 +68,14 @@ openedAs (opened.Tree n) = inl n
 openedAs (opened.Refused f) = inr (refusal f)
 
 -- the table, which was t₀, has the words of the tree; the others are as they were
-pub record Holds (x t₀ t : List ℕ) (n : ℕ) : Type 0 where
+pub record TreeIn (x t₀ t : List ℕ) (n : ℕ) : Type 0 where
   pub tree : Stands x t n
   pub rest : (k : ℕ) → n ≤ k → getD t k 0 ≡ getD t₀ k 0
 
 -- r is the answer for the text x, and what the table holds if that is a tree
 pub record Opens (x t₀ t : List ℕ) (r : Opened) : Type 0 where
   pub is : openedAs r ≡ opening (read x)
-  pub holds : (n : ℕ) → r ≡ opened.Tree n → Holds x t₀ t n
+  pub holds : (n : ℕ) → r ≡ opened.Tree n → TreeIn x t₀ t n
 
 -- the least fault of the rules 5 to 17 of the tree that the text x is read as, and the index over the table t of its city objects
 pub record Examined (x t : List ℕ) (w : Walked) : Type 0 where

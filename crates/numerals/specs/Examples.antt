@@ -6,7 +6,7 @@ use mathlib.Core.Bool.{true, false}
 use native.Mathlib.Omega.{arith}
 use Rattle.utf8.specs.Ascii.{ascii}
 use Rattle.numerals.specs.Numerals.{decimal, pairOf, isInteger, integer, fits32, isBelow}
-use Rattle.numerals.specs.Values.{written, SameValue, by-value}
+use Rattle.numerals.specs.Values.{asWritten, SameValue, by-value}
 
 one-point-nought : pairOf (ascii "1.0") ≡ some (record { m = pos 1; e = pos 0 })
 unfolding pairOf ascii
@@ -71,16 +71,16 @@ past-32 = refl
 -- ---- values
 
 -- 150 times ten to the 0, and 1500 times ten to the -1
-fraction-and-exponent : SameValue (written (ascii "1.50e2")) (written (ascii "150.0"))
-unfolding written ascii
+fraction-and-exponent : SameValue (asWritten (ascii "1.50e2")) (asWritten (ascii "150.0"))
+unfolding asWritten ascii
 fraction-and-exponent = record { k = 1; i = 1; j = 0; left = refl; right = refl; same = refl }
 
 -- zero has one value, with a sign and at any power
-zeros : SameValue (written (ascii "-0.0")) (written (ascii "0e9"))
-unfolding written ascii
+zeros : SameValue (asWritten (ascii "-0.0")) (asWritten (ascii "0e9"))
+unfolding asWritten ascii
 zeros = record { k = 1; i = 0; j = 10; left = refl; right = refl; same = refl }
 
 -- 1 and 10 have the same digits but for zeros, and not the same value
-one-and-ten : SameValue (written (ascii "1")) (written (ascii "10")) → ⊥
+one-and-ten : SameValue (asWritten (ascii "1")) (asWritten (ascii "10")) → ⊥
 unfolding decimal ascii
 one-and-ten s = let e = ap (λ d. natAbs (d .e)) (by-value (ascii "1") (ascii "10") .1 s) in omega (arith, e)

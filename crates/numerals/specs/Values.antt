@@ -15,9 +15,9 @@ use Rattle.numerals.specs.Numerals.{Decimal, Trimmed, trimmed, none-yet,
 use Rattle.numerals.specs.Laws.{Canonical, canonical, meaning, natAbs-signed, zero-signed, times-signed}
 
 -- a numeral is its digits before the exponent, as one number with its sign, times ten to the exponent less the places after the point (RFC 8259, section 6)
-unfoldable pub written : List ℕ → Decimal
+unfoldable pub asWritten : List ℕ → Decimal
 unfolding signed negative natural digits mantissa exponent places
-written raw = record { m = signed (negative raw) (natural 0 (digits (mantissa raw))); e = exponent raw -ℤ pos (places raw) }
+asWritten raw = record { m = signed (negative raw) (natural 0 (digits (mantissa raw))); e = exponent raw -ℤ pos (places raw) }
 
 -- two pairs have one value: times one power of ten, 10^k, that makes both whole they are the same integer
 pub record SameValue (a b : Decimal) : Type 0 where
@@ -141,8 +141,8 @@ value-scaled neg t e n h = let (k, i, w) = whole-at e in by k i w (eqb (t .m) 0)
         }
 
 -- a numeral and its pair have one value
-pub has-value : (raw : List ℕ) → SameValue (written raw) (decimal raw)
-unfolding written decimal
+pub has-value : (raw : List ℕ) → SameValue (asWritten raw) (decimal raw)
+unfolding asWritten decimal
 has-value raw =
     let ds = digits (mantissa raw) in
     value-scaled (negative raw) (trimmed none-yet ds) (exponent raw -ℤ pos (places raw)) (natural 0 ds) (meaning ds)
@@ -193,7 +193,7 @@ one-pair a b (inr f) (inr g) s = pair-path factors ends
         ∙ +ℤ-negℤ-cancel (b .e) (pos (s .k))
 
 -- two numerals have one pair exactly if they write one value
-pub by-value : (raw raw′ : List ℕ) → (decimal raw ≡ decimal raw′) ↔ SameValue (written raw) (written raw′)
+pub by-value : (raw raw′ : List ℕ) → (decimal raw ≡ decimal raw′) ↔ SameValue (asWritten raw) (asWritten raw′)
 by-value raw raw′ =
     let h = has-value raw in
     let h′ = has-value raw′ in (

@@ -21,7 +21,7 @@ use Rattle.verdict.specs.Exact.{Breaks, Least, accepted-exactly, refused-exactl
 use Rattle.model.specs.Model.{sheetOf}
 use Rattle.model.specs.Good.{GoodModel}
 use Rattle.model.specs.Read.{get, objectOf, modelOf}
-use Rattle.model.specs.Demand.{same-sheet-same-model, Begins, neither-begins}
+use Rattle.model.specs.Demand.{same-sheet-same-model, IsPrefix, neither-begins}
 use Rattle.model.specs.Alike.{Alike, alike-same-model}
 use Rattle.model.specs.AlikeLaws.{alike-self, alike-sym}
 use Rattle.sheets.specs.Laid.{modelOfText, sheetOfText, laid, refused, fitted, answer, roomAfter}
@@ -61,7 +61,7 @@ tells x y r s l m n k e f =
 
 -- and if the models differ, neither begins the other
 pub apart : (x y : List ℕ) (r s l m n k : ℕ) → answer x r ≡ laid l n → answer y s ≡ laid m k → modelOfText x ≢ modelOfText y
-    → (¬ Begins (take l (roomAfter x r)) (take m (roomAfter y s))) × (¬ Begins (take m (roomAfter y s)) (take l (roomAfter x r)))
+    → (¬ IsPrefix (take l (roomAfter x r)) (take m (roomAfter y s))) × (¬ IsPrefix (take m (roomAfter y s)) (take l (roomAfter x r)))
 unfolding sheetOfText
 apart x y r s l m n k e f d =
     rw (begins-sheet x r l n e, begins-sheet y s m k f) (neither-begins (modelOfText x) (modelOfText y) (good x n (of-laid x r l n e .accepted)) (good y k (of-laid y s m k f .accepted)) d)

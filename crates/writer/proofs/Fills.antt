@@ -11,7 +11,7 @@ use Rattle.utf8.specs.Bytes.{le}
 use Rattle.model.specs.Weigh.{length-le}
 use Rattle.strings.specs.Spans.{Span, decodeAt, Copied}
 use Rattle.strings.specs.Laws.{decodeAt-short}
-use Rattle.writer.specs.Writes.{Writes, Puts, Skips}
+use Rattle.writer.specs.Writes.{Writes, Stores, Skips}
 use Rattle.writer.specs.Laws.{le-split, then, as-bytes}
 
 -- ---- zeroes
@@ -43,7 +43,7 @@ pub size-le : (w n : ℕ) → w ≡ length (le w n)
 size-le w n = sym (length-le w n)
 
 -- they do not fit
-pub no-room : {ws d : List ℕ} {n at end : ℕ} → n ≡ length ws → Skips n at end → length d < end → Puts ws d d at end
+pub no-room : {ws d : List ℕ} {n at end : ℕ} → n ≡ length ws → Skips n at end → length d < end → Stores ws d d at end
 no-room e s h = record {
   writes = record {
     ends = omega (arith, s .ends);
@@ -55,30 +55,30 @@ no-room e s h = record {
 }
 
 -- they fit
-fitting : {ws d₀ d : List ℕ} {n at end r : ℕ} → n ≡ length ws → Skips n at end → end ≤ length d₀ → length d₀ * 1 < 2 ^ 63 → Writes ws d₀ d at r → Puts ws d₀ d at r
+fitting : {ws d₀ d : List ℕ} {n at end r : ℕ} → n ≡ length ws → Skips n at end → end ≤ length d₀ → length d₀ * 1 < 2 ^ 63 → Writes ws d₀ d at r → Stores ws d₀ d at r
 fitting e s h l w = record { writes = w; kept = λ over. absurd (omega (arith, s .ends)) }
 
 -- two bytes
 pub second : (d : List ℕ) (v at end : ℕ) → Skips 2 at end → end ≤ length d → length d * 1 < 2 ^ 63 → at + 1 < length (set d at v)
 second d v at end s h l = simp length-set (omega (arith, s .ends))
 
-pub put-two : (d : List ℕ) (n at end : ℕ) → Skips 2 at end → end ≤ length d → length d * 1 < 2 ^ 63 → Puts (le 2 n) d (set (set d at (n % 256)) (at + 1) (n / 256 % 256)) at end
+pub put-two : (d : List ℕ) (n at end : ℕ) → Skips 2 at end → end ≤ length d → length d * 1 < 2 ^ 63 → Stores (le 2 n) d (set (set d at (n % 256)) (at + 1) (n / 256 % 256)) at end
 unfolding le
 put-two d n at end s h l = fitting refl s h l (record { ends = s .ends; onward = s .onward; room = simp length-set; wrote = λ fits low. rw add-one })
 
 -- a number by its halves
 module _ (n : ℕ) {at q r end : ℕ} {d d₁ d₂ : List ℕ} where
-  joined : (v w : ℕ) → Skips (v + w) at end → end ≤ length d → length d * 1 < 2 ^ 63 → Puts (le v n) d d₁ at q → Puts (le w (n / 256 ^ v)) d₁ d₂ q r → Puts (le (v + w) n) d d₂ at r
+  joined : (v w : ℕ) → Skips (v + w) at end → end ≤ length d → length d * 1 < 2 ^ 63 → Stores (le v n) d d₁ at q → Stores (le w (n / 256 ^ v)) d₁ d₂ q r → Stores (le (v + w) n) d d₂ at r
   joined v w s h l f g = fitting (size-le (v + w) n) s h l (as-bytes (sym (le-split v w n)) (then (f .writes) (g .writes)))
 
-  pub put-four : Skips 4 at end → end ≤ length d → length d * 1 < 2 ^ 63 → Puts (le 2 n) d d₁ at q → Puts (le 2 (n / 65536)) d₁ d₂ q r → Puts (le 4 n) d d₂ at r
+  pub put-four : Skips 4 at end → end ≤ length d → length d * 1 < 2 ^ 63 → Stores (le 2 n) d d₁ at q → Stores (le 2 (n / 65536)) d₁ d₂ q r → Stores (le 4 n) d d₂ at r
   put-four = joined 2 2
 
-  pub put-eight : Skips 8 at end → end ≤ length d → length d * 1 < 2 ^ 63 → Puts (le 4 n) d d₁ at q → Puts (le 4 (n / 0x1_0000_0000)) d₁ d₂ q r → Puts (le 8 n) d d₂ at r
+  pub put-eight : Skips 8 at end → end ≤ length d → length d * 1 < 2 ^ 63 → Stores (le 4 n) d d₁ at q → Stores (le 4 (n / 0x1_0000_0000)) d₁ d₂ q r → Stores (le 8 n) d d₂ at r
   put-eight = joined 4 4
 
 -- a string
-pub copied : {ws d₀ d : List ℕ} {n at end r : ℕ} → n ≡ length ws → Skips n at end → end ≤ length d₀ → length d₀ * 1 < 2 ^ 63 → Copied ws d₀ d at r → length d ≡ length d₀ → Puts ws d₀ d at r
+pub copied : {ws d₀ d : List ℕ} {n at end r : ℕ} → n ≡ length ws → Skips n at end → end ≤ length d₀ → length d₀ * 1 < 2 ^ 63 → Copied ws d₀ d at r → length d ≡ length d₀ → Stores ws d₀ d at r
 copied e s h l c k =
     fitting e s h l
     (record { ends = omega (arith, c .answer); onward = omega (arith, c .answer); room = k; wrote = λ fits low. c .contents ∙ sym (sets-eq _ _ _ fits) })

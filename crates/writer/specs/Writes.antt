@@ -16,7 +16,7 @@ pub record Writes (ws d₀ d : List ℕ) (to r : ℕ) : Type 0 where
   pub wrote : to + length ws ≤ length d₀ → to + length ws < 2 ^ 63 → d ≡ sets d₀ to ws
 
 -- the same of a number or a string, of which nothing is set if it does not fit
-pub record Puts (ws d₀ d : List ℕ) (to r : ℕ) : Type 0 where
+pub record Stores (ws d₀ d : List ℕ) (to r : ℕ) : Type 0 where
   pub writes : Writes ws d₀ d to r
   pub kept : length d₀ < to + length ws → d ≡ d₀
 

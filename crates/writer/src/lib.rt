@@ -4,7 +4,7 @@ ghost use mathlib.Core.Path.{_≡_};
 ghost use lib.ListN.{length, replicate};
 ghost use Rattle.strings.specs.Spans.{Span, decodeAt};
 ghost use Rattle.utf8.specs.Bytes.{le};
-ghost use Rattle.writer.specs.Writes.{Puts, Skips, Closes, twos};
+ghost use Rattle.writer.specs.Writes.{Stores, Skips, Closes, twos};
 
 // Zeroes the whole sheet.
 pub fn clear(sheet: &mut [u8])
@@ -30,7 +30,7 @@ pub fn skip(at: usize, n: usize) -> usize
 
 // A number in two bytes.
 pub fn put2(sheet: &mut [u8], at: usize, n: u64) -> usize
-    ensures { λ r. ⌜ Puts (le 2 n) (now (sheet .entry)) (now (sheet .exit)) at r ⌝ }
+    ensures { λ r. ⌜ Stores (le 2 n) (now (sheet .entry)) (now (sheet .exit)) at r ⌝ }
 {
     let end = skip(at, 2);
     if end > sheet.len() {
@@ -43,7 +43,7 @@ pub fn put2(sheet: &mut [u8], at: usize, n: u64) -> usize
 
 // A number in four bytes.
 pub fn put4(sheet: &mut [u8], at: usize, n: u64) -> usize
-    ensures { λ r. ⌜ Puts (le 4 n) (now (sheet .entry)) (now (sheet .exit)) at r ⌝ }
+    ensures { λ r. ⌜ Stores (le 4 n) (now (sheet .entry)) (now (sheet .exit)) at r ⌝ }
 {
     let end = skip(at, 4);
     if end > sheet.len() {
@@ -55,7 +55,7 @@ pub fn put4(sheet: &mut [u8], at: usize, n: u64) -> usize
 
 // A number in eight bytes.
 pub fn put8(sheet: &mut [u8], at: usize, n: u64) -> usize
-    ensures { λ r. ⌜ Puts (le 8 n) (now (sheet .entry)) (now (sheet .exit)) at r ⌝ }
+    ensures { λ r. ⌜ Stores (le 8 n) (now (sheet .entry)) (now (sheet .exit)) at r ⌝ }
 {
     let end = skip(at, 8);
     if end > sheet.len() {
@@ -78,7 +78,7 @@ pub fn bits(z: i64) -> u64
 // The bytes that a string of the text stands for.
 pub fn string(text: &[u8], from: usize, to: usize, sheet: &mut [u8], at: usize) -> usize
     requires { ⌜ Span (now text) from to ⌝ }
-    ensures { λ r. ⌜ Puts (decodeAt (now (text .entry)) from to) (now (sheet .entry)) (now (sheet .exit)) at r ⌝ }
+    ensures { λ r. ⌜ Stores (decodeAt (now (text .entry)) from to) (now (sheet .entry)) (now (sheet .exit)) at r ⌝ }
 {
     let n = strings::decoded_length(text, from, to);
     let end = skip(at, n);
