@@ -21,7 +21,7 @@ use Rattle.schema.specs.Schema.{cityJson}
 use Rattle.schema.specs.Says.{IndexedAt}
 use Rattle.schema.specs.declared.Walked.{Walked}
 use Rattle.links.specs.Says.{Ready, LinksGive}
-use Rattle.verdict.specs.Verdict.{faults}
+use Rattle.verdict.specs.Verdict.{faults, parsed, screening}
 use Rattle.verdict.specs.Exact.{in-text}
 use Rattle.verdict.specs.Places.{Placed, early}
 use Rattle.refusals.specs.Refusals.{ruleNumber}
@@ -29,7 +29,7 @@ use Rattle.refusals.specs.declared.Broken.the-variants as broken
 use Rattle.judging.specs.declared.Screened.the-variants as screened
 use Rattle.judging.specs.declared.Opened.{Opened}
 use Rattle.judging.specs.declared.Opened.the-variants as opened
-use Rattle.judging.specs.Judging.{screening, screenedAs, opening, openedAs, Room, Stands, TreeIn, Opens, Examined}
+use Rattle.judging.specs.Judging.{screenedAs, opening, openedAs, Room, Stands, TreeIn, Opens, Examined}
 use Rattle.judging.specs.Laws.{passed-short, passed-judged, screened-refused, opened-tree, opened-refused, table-refused, table-accepted}
 use Rattle.judging.specs.Least.{early-passes, all-passes, before-links, no-repeat, no-schema, from-five, few-objects}
 use Rattle.judging.proofs.Alone.{alone}
@@ -61,11 +61,11 @@ module _ (x t₀ t : List ℕ) {r : Parsed} (h : Tells x t₀ t r) where
       record { is = rw (s .reads, s .ends); holds = λ k q. let z : n ≡ k = cc in rw (← z) m }
 
   pub open-bad : {p : ℕ} → r ≡ parse.Bad p → Opens x t₀ t (opened.Refused (record { rule = broken.NotJson; place = p }))
-  unfolding Tells openedAs opening ruleNumber
+  unfolding Tells openedAs opening parsed ruleNumber
   open-bad e = record { is = rw (subst (Tells x t₀ t) e h .1); holds = λ k q. clash cc }
 
   pub open-deep : {p : ℕ} → r ≡ parse.Deep p → Opens x t₀ t (opened.Refused (record { rule = broken.TooDeep; place = p }))
-  unfolding Tells openedAs opening ruleNumber
+  unfolding Tells openedAs opening parsed ruleNumber
   open-deep e = record { is = rw (subst (Tells x t₀ t) e h .1); holds = λ k q. clash cc }
 
   -- neither happens

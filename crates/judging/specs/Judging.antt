@@ -1,13 +1,10 @@
 -- What judge and its parts answer.
 use mathlib.Core.Path.{_≡_}
-use mathlib.Core.Bool.{cond}
 use mathlib.Core.List.{List}
 use mathlib.Core.Logic.{_⊎_, inl, inr}
 use mathlib.Core.Option.{Option, none, some}
 use Prim.Native.Nat.{ℕ, _+_, _*_, _≤_}
 use lib.ListN.{length, getD}
-use lib.Dec.{ltb}
-use Rattle.utf8.specs.Utf8.{wholeLength}
 use Rattle.json.specs.Tree.{Json}
 use Rattle.json.specs.Machine.{Outcome, read, reads, bad, tooDeep}
 use Rattle.json.specs.Table.{Sub, size}
@@ -43,24 +40,17 @@ pub record Room (x t : List ℕ) : Type 0 where
   pub short : length x ≤ 65535
   pub long : 3 * length x + 99 ≤ 2 * length t
 
--- rules 1 and 2: the refusal by one of them, if there is one
-unfoldable pub screening : List ℕ → Option verdict.Verdict
-unfolding wholeLength
-screening x =
-    cond (ltb 65535 (length x)) (some (verdict.refused 1 65535))
-    (cond (ltb (wholeLength x) (length x)) (some (verdict.refused 2 (wholeLength x))) none)
-
--- what `screen` answers, as that
+-- what `screen` answers, as the refusal by rule 1 or 2, if there is one
 unfoldable pub screenedAs : Screened → Option verdict.Verdict
 screenedAs screened.Passed = none
 screenedAs (screened.Refused f) = some (refusal f)
 
--- rules 3 and 4: how many words the tree takes that a text is read as, or the refusal
+-- rules 3 and 4: how many words the tree takes that a text is read as, or the refusal by one of them
 unfoldable pub opening : Outcome → ℕ ⊎ verdict.Verdict
 unfolding size
 opening (reads v) = inl (size v)
-opening (bad p) = inr (verdict.refused 3 p)
-opening (tooDeep p) = inr (verdict.refused 4 p)
+opening (bad p) = inr (verdict.parsed (bad p))
+opening (tooDeep p) = inr (verdict.parsed (tooDeep p))
 
 -- what `open` answers, as that
 unfoldable pub openedAs : Opened → ℕ ⊎ verdict.Verdict

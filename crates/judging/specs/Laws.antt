@@ -15,7 +15,7 @@ use Rattle.utf8.specs.Laws.{clash}
 use Rattle.json.specs.Machine.{Outcome, read, reads, bad, tooDeep}
 use Rattle.nodes.specs.Faults.{ruleOf, placeIn, noFault}
 use Rattle.schema.specs.declared.Walked.{Walked}
-use Rattle.verdict.specs.Verdict.{accepted, refused, faults, parsed, verdict}
+use Rattle.verdict.specs.Verdict.{accepted, refused, faults, parsed, screening, verdict}
 use Rattle.verdict.specs.Verdict as judged
 use Rattle.verdict.specs.Exact.{verdict-long, verdict-odd, verdict-read, in-text}
 use Rattle.refusals.specs.Refusals.{refusal}
@@ -26,7 +26,7 @@ use Rattle.judging.specs.declared.Opened.{Opened}
 use Rattle.judging.specs.declared.Opened.the-variants as opened
 use Rattle.judging.specs.declared.Verdict.{Verdict}
 use Rattle.judging.specs.declared.Verdict.the-variants.{Accepted, Refused}
-use Rattle.judging.specs.Judging.{verdictOf, screening, screenedAs, opening, openedAs, Stands, Opens, Examined}
+use Rattle.judging.specs.Judging.{verdictOf, screenedAs, opening, openedAs, Stands, Opens, Examined}
 use Rattle.judging.specs.Least.{no-fault, judged-fault, judged-none, few-clean}
 
 -- ---- rules 1 and 2

@@ -2,9 +2,9 @@
 ghost use Prim.Native.Nat.{_≤_};
 ghost use mathlib.Core.Path.{_≡_};
 ghost use lib.ListN.{length};
-ghost use Rattle.verdict.specs.Verdict.{parsed, verdict};
+ghost use Rattle.verdict.specs.Verdict.{parsed, screening, verdict};
 ghost use Rattle.json.specs.Machine.{read};
-ghost use Rattle.judging.specs.Judging.{verdictOf, screening, screenedAs, Room, Stands, Opens, Examined};
+ghost use Rattle.judging.specs.Judging.{verdictOf, screenedAs, Room, Stands, Opens, Examined};
 use json::Parsed;
 use nodes::NO_FAULT;
 use refusals::Broken;

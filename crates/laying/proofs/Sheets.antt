@@ -19,7 +19,7 @@ use Rattle.model.specs.Model.{sheetOf}
 use Rattle.model.specs.Read.{modelOf}
 use Rattle.model.specs.Size.{short-enough}
 use Rattle.verdict.specs.Verdict as verdict
-use Rattle.verdict.specs.Verdict.{faults, parsed}
+use Rattle.verdict.specs.Verdict.{faults, parsed, screening}
 use Rattle.verdict.specs.Places.{early}
 use Rattle.sheets.specs.Clear.{nil-left, nil-right}
 use Rattle.sheets.specs.Short.{tree-within}
@@ -37,7 +37,7 @@ use Rattle.refusals.specs.declared.Refusal.{Refusal}
 use Rattle.judging.specs.declared.Screened.{Screened}
 use Rattle.judging.specs.declared.Screened.the-variants as screened
 use Rattle.judging.specs.declared.Verdict.the-variants.{Refused}
-use Rattle.judging.specs.Judging.{verdictOf, screening, screenedAs, Stands, Examined}
+use Rattle.judging.specs.Judging.{verdictOf, screenedAs, Stands, Examined}
 use Rattle.judging.specs.Laws.{passed-short, passed-verdict, screened-refused, opened-tree, opened-refused, clean, table-accepted}
 use Rattle.judging.specs.Least.{few-clean}
 use Rattle.laying.specs.declared.Answer.the-variants as answers

@@ -3,6 +3,7 @@ use Prim.Native.Nat.{ℕ, _-_, _≤_, _<_}
 use native.Mathlib.Omega.{arith}
 use mathlib.Core.Path.{_≡_, refl, sym, ap, _∙_, subst}
 use mathlib.Core.Bool.{Bool, true, false, cond}
+use mathlib.Core.Option.{none, some}
 use mathlib.Core.List.{List, [], _++_, map, map-eq-nil-iff}
 use lib.ListN.{length, take, replicate, length-append, length-replicate}
 use lib.Seq.{take-at}
@@ -17,7 +18,7 @@ use Rattle.everywhere.specs.Everywhere.{rule5, rule6}
 use Rattle.fields.specs.Fields.{objectsOf}
 use Rattle.schema.specs.Schema.{cityJson}
 use Rattle.links.specs.Links.{linkFaults}
-use Rattle.verdict.specs.Verdict.{Verdict, accepted, faults, given, judged, parsed, verdict}
+use Rattle.verdict.specs.Verdict.{Verdict, accepted, faults, given, judged, parsed, screening, verdict}
 use Rattle.verdict.specs.Verdict as judge
 use Rattle.verdict.specs.Exact.{Clean, accepted-clean}
 use Rattle.model.specs.Good.{GoodModel}
@@ -137,11 +138,6 @@ Low : Verdict → Type 0
 Low (judge.accepted n) = Unit {0}
 Low (judge.refused r p) = r < 18
 
--- one of two such verdicts
-either-low : (b : Bool) (u v : Verdict) → Low u → Low v → Low (elim b [ true ↦ u | false ↦ v ])
-either-low true u v p q = p
-either-low false u v p q = q
-
 -- a tree's verdict
 given-low : (n f : ℕ) → Low (given n f)
 unfolding given Low ruleOf
@@ -160,10 +156,13 @@ parsed-low (tooDeep n) = omega arith
 
 -- judge never answers 18
 verdict-low : (x : List ℕ) → Low (verdict x)
-unfolding verdict Low
-verdict-low x =
-    either-low (ltb 65535 (length x)) _ _ (omega arith)
-    (either-low (ltb (wholeLength x) (length x)) _ _ (omega arith) (parsed-low (read x)))
+unfolding verdict screening Low
+verdict-low x = by (ltb 65535 (length x)) (ltb (wholeLength x) (length x))
+  where
+    by : (a b : Bool) → Low (elim (cond a (some (judge.refused 1 65535)) (cond b (some (judge.refused 2 (wholeLength x))) none)) [ some v ↦ v | none ↦ parsed (read x) ])
+    by true b = omega arith
+    by false true = omega arith
+    by false false = parsed-low (read x)
 
 -- where 18 is answered, the text is accepted and its sheet is longer than the room
 pub too-long : (x : List ℕ) (r : ℕ) → answer x r ≡ refused 18 0 → ((n : ℕ) × (verdict x ≡ accepted n)) × (r < length (sheetOfText x))

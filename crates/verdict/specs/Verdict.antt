@@ -1,7 +1,8 @@
 -- The verdict of a text (document 01, section "Verdict and place").
 use Prim.Native.Nat.{ℕ, _+_}
-use mathlib.Core.Bool.{true, false, cond}
+use mathlib.Core.Bool.{cond}
 use mathlib.Core.List.{List, [], _++_, map}
+use mathlib.Core.Option.{Option, none, some}
 use lib.ListN.{length}
 use lib.Dec.{ltb}
 use Rattle.utf8.specs.Utf8.{wholeLength}
@@ -39,11 +40,14 @@ parsed (reads v) = judged v
 parsed (bad n) = refused 3 n
 parsed (tooDeep n) = refused 4 n
 
--- rules 1 and 2 come first
+-- rules 1 and 2: the refusal by one of them, if there is one
+unfoldable pub screening : List ℕ → Option Verdict
+unfolding wholeLength
+screening text =
+    cond (ltb 65535 (length text)) (some (refused 1 65535))
+    (cond (ltb (wholeLength text) (length text)) (some (refused 2 (wholeLength text))) none)
+
+-- they come first
 unfoldable pub verdict : List ℕ → Verdict
-unfolding parsed read wholeLength
-verdict text =
-    elim (ltb 65535 (length text)) [
-      | true ↦ refused 1 65535
-      | false ↦ elim (ltb (wholeLength text) (length text)) [ true ↦ refused 2 (wholeLength text) | false ↦ parsed (read text) ]
-    ]
+unfolding screening parsed read
+verdict text = elim (screening text) [ some v ↦ v | none ↦ parsed (read text) ]
