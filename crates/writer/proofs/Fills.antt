@@ -1,7 +1,7 @@
 -- What the stores of the functions leave: zeroes, numbers, strings.
 use mathlib.Core.Path.{_≡_, refl, sym, ap, _∙_}
 use mathlib.Core.List.{List, _++_, append-nil}
-use Prim.Native.Nat.{ℕ, _+_, _*_, _/_, _%_, _^_, _≤_, _<_}
+use Prim.Native.Nat.{ℕ, suc, _+_, _*_, _/_, _%_, _^_, _≤_, _<_}
 use native.Mathlib.Omega.{arith}
 use native.Mathlib.Numerals.{add-one}
 use lib.ListN.{length, drop, set, replicate, length-set}
@@ -58,21 +58,37 @@ no-room e s h = record {
 fitting : {ws d₀ d : List ℕ} {n at end r : ℕ} → n ≡ length ws → Skips n at end → end ≤ length d₀ → length d₀ * 1 < 2 ^ 63 → Writes ws d₀ d at r → Stores ws d₀ d at r
 fitting e s h l w = record { writes = w; kept = λ over. absurd (omega (arith, s .ends)) }
 
--- two bytes
-pub second : (d : List ℕ) (v at end : ℕ) → Skips 2 at end → end ≤ length d → length d * 1 < 2 ^ 63 → at + 1 < length (set d at v)
-second d v at end s h l = simp length-set (omega (arith, s .ends))
+-- room for the second byte of a number, the third and the fourth
+module _ (n : ℕ) (d : List ℕ) (a b c at end : ℕ) (s : Skips n at end) (h : end ≤ length d) (l : length d * 1 < 2 ^ 63) where
+  pub second : 2 ≤ n → at + 1 < length (set d at a)
+  second w = simp length-set (omega (arith, s .ends))
 
+  pub third : 3 ≤ n → at + 2 < length (set (set d at a) (at + 1) b)
+  third w = simp length-set (omega (arith, s .ends))
+
+  pub fourth : 4 ≤ n → at + 3 < length (set (set (set d at a) (at + 1) b) (at + 2) c)
+  fourth w = simp length-set (omega (arith, s .ends))
+
+-- two bytes
 pub put-two : (d : List ℕ) (n at end : ℕ) → Skips 2 at end → end ≤ length d → length d * 1 < 2 ^ 63 → Stores (le 2 n) d (set (set d at (n % 256)) (at + 1) (n / 256 % 256)) at end
 unfolding le
 put-two d n at end s h l = fitting refl s h l (record { ends = s .ends; onward = s .onward; room = simp length-set; wrote = λ fits low. rw add-one })
+
+-- four bytes
+pub put-four : (d : List ℕ) (n at end : ℕ) → Skips 4 at end → end ≤ length d → length d * 1 < 2 ^ 63
+    → Stores (le 4 n) d (set (set (set (set d at (n % 256)) (at + 1) (n / 256 % 256)) (at + 2) (n / 65536 % 256)) (at + 3) (n / 16777216 % 256)) at end
+unfolding le
+put-four d n at end s h l =
+    let p : n / 65536 ≡ n / 256 / 256 = omega arith in
+    let q : n / 16777216 ≡ n / 256 / 256 / 256 = omega arith in
+    let i : at + 2 ≡ suc (suc at) = omega arith in
+    let j : at + 3 ≡ suc (suc (suc at)) = omega arith in
+    fitting refl s h l (record { ends = s .ends; onward = s .onward; room = simp length-set; wrote = λ fits low. rw (p, q, i, j, add-one) })
 
 -- a number by its halves
 module _ (n : ℕ) {at q r end : ℕ} {d d₁ d₂ : List ℕ} where
   joined : (v w : ℕ) → Skips (v + w) at end → end ≤ length d → length d * 1 < 2 ^ 63 → Stores (le v n) d d₁ at q → Stores (le w (n / 256 ^ v)) d₁ d₂ q r → Stores (le (v + w) n) d d₂ at r
   joined v w s h l f g = fitting (size-le (v + w) n) s h l (as-bytes (sym (le-split v w n)) (then (f .writes) (g .writes)))
-
-  pub put-four : Skips 4 at end → end ≤ length d → length d * 1 < 2 ^ 63 → Stores (le 2 n) d d₁ at q → Stores (le 2 (n / 65536)) d₁ d₂ q r → Stores (le 4 n) d d₂ at r
-  put-four = joined 2 2
 
   pub put-eight : Skips 8 at end → end ≤ length d → length d * 1 < 2 ^ 63 → Stores (le 4 n) d d₁ at q → Stores (le 4 (n / 0x1_0000_0000)) d₁ d₂ q r → Stores (le 8 n) d d₂ at r
   put-eight = joined 4 4

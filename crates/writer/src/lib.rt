@@ -49,8 +49,11 @@ pub fn put4(sheet: &mut [u8], at: usize, n: u64) -> usize
     if end > sheet.len() {
         return end;
     }
-    let middle = put2(sheet, at, n);
-    put2(sheet, middle, n / 65536)
+    sheet[at] = (n % 256) as u8;
+    sheet[at + 1] = (n / 256 % 256) as u8;
+    sheet[at + 2] = (n / 65536 % 256) as u8;
+    sheet[at + 3] = (n / 16777216 % 256) as u8;
+    end
 }
 
 // A number in eight bytes.
