@@ -1,6 +1,5 @@
 -- JSON texts (RFC 8259) read one byte at a time, by a machine with a stack of the containers that are open.
 -- It stops at the first byte that no JSON text has there (document 01, rule 3) and at the byte that opens a level too many (rule 4).
---
 use Prim.Native.Nat.{ℕ, zero, suc, _+_, _-_}
 use mathlib.Core.Bool.{Bool, true, false, cond, _||_, _&&_}
 use mathlib.Core.Option.{Option, some}

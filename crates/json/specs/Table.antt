@@ -1,6 +1,5 @@
 -- The node table of a tree: three words for each value and each name, in the order in which they start in the text: where it starts,
 -- where it ends (one past its last byte), and the index of the first word past it and all that it holds. A name is followed by its value.
---
 use mathlib.Core.Path.{_≡_}
 use mathlib.Core.Bool.{Bool, true, false, _||_}
 use mathlib.Core.List.{List}

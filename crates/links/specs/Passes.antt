@@ -1,5 +1,4 @@
 -- The faults of links in the order in which they are found: those of rule 15 first, then those of rules 16 and 17. Only contracts of private functions cite them: that together they are those of Links is `split-objects` in the proofs.
---
 use Prim.Native.Nat.{ℕ}
 use Prim.Native.String.{String}
 use mathlib.Core.Bool.{Bool, false, cond, not, _&&_, _||_}

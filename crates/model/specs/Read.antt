@@ -1,5 +1,4 @@
 -- The city model of a JSON tree. Whatever is not there, or is of another kind, reads as empty, zero or none: that matters for no accepted text.
---
 use mathlib.Core.Bool.{cond}
 use mathlib.Core.List.{List, [], _∷_, map}
 use mathlib.Core.Option.{Option, none, some, Option·map}

@@ -1,5 +1,4 @@
 -- Laws of the codes: a text has a code exactly if it is one of the words; the code is the place of the word that the text is; no two words of a list are the same; a string that does not look like a type of the second level is none.
---
 use Prim.Native.Nat.{ℕ, zero, suc, _+_, _-_, _≤_, _<_}
 use Prim.Native.String.{String}
 use native.Mathlib.Omega.{arith}

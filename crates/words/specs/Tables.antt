@@ -1,5 +1,4 @@
 -- What the functions are asked and tell besides the codes: the number of the first of some words that a text is, where the words stand one after the other in a string of bytes; a table of the permitted geometries; and a look at a string before it is compared with the types.
---
 use Prim.Native.Nat.{ℕ, _+_, _-_, _/_, _^_}
 use Prim.Native.String.{String}
 use mathlib.Core.Bool.{Bool, true, cond, _&&_, _||_}
