@@ -11,6 +11,7 @@ pub mod json;
 #[cfg(feature = "library")]
 pub mod library;
 pub mod model;
+pub mod pages;
 pub mod published;
 pub mod rules;
 pub mod samples;

@@ -4,7 +4,9 @@
 
 use std::fs;
 use std::io::{self, Write};
-use std::path::{Path, PathBuf};
+use std::path::PathBuf;
+
+use crate::pages::root;
 
 /// How many files the JSON test suite has: those that are JSON, those that are not, and
 /// those on which parsers may differ.
@@ -59,8 +61,7 @@ pub struct File {
 
 /// The first of the paths, from the repository's root, that is there.
 fn found(paths: &[&str]) -> Option<PathBuf> {
-    let root = Path::new(env!("CARGO_MANIFEST_DIR")).join("..");
-    let mut paths = paths.iter().map(|path| root.join(path));
+    let mut paths = paths.iter().map(|path| root().join(path));
     paths.find(|path| path.exists())
 }
 

@@ -2,18 +2,14 @@
 
 use std::fs::{self, File, OpenOptions};
 use std::io::{ErrorKind, Write};
-use std::path::{Path, PathBuf};
 use std::process::{Command, Output, Stdio};
 use std::thread;
 use std::time::Duration;
 
 use kebrawish_tests::compare::shown;
+use kebrawish_tests::pages::root;
 use kebrawish_tests::samples::{self, document, MINIMAL};
 use kebrawish_tests::TEXT_LIMIT;
-
-fn root() -> PathBuf {
-    Path::new(env!("CARGO_MANIFEST_DIR")).join("..")
-}
 
 /// The lister, away from the repository's root.
 fn lister() -> Command {

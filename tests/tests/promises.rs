@@ -1,40 +1,26 @@
 //! `docs/PROMISES.md` beside the sources: it has each public function of a library once and
-//! no other, says of each whether it asks something of its caller, and names every must-fail
-//! edit and no other.
+//! no other, says of each whether it asks something of its caller, names every must-fail
+//! edit and no other, and cites only definitions and theorems that are there.
+//! What a contract asks is not read here, only whether it asks.
 
+use kebrawish_tests::pages::{crates, edits, is_name, page, quoted, root, specifies};
 use std::collections::{BTreeMap, BTreeSet};
 use std::fs;
-use std::path::{Path, PathBuf};
 
-fn root() -> PathBuf {
-    Path::new(env!("CARGO_MANIFEST_DIR")).join("..")
-}
-
-/// The words between backquotes.
-fn quoted(line: &str) -> impl Iterator<Item = &str> {
-    line.split('`').skip(1).step_by(2)
-}
-
-fn promises() -> String {
-    fs::read_to_string(root().join("docs/PROMISES.md")).expect("the promises")
+/// The section under a heading.
+fn section<'a>(page: &'a str, heading: &str) -> &'a str {
+    let (_, section) = page.split_once(heading).expect(heading);
+    section.split_once("\n## ").map_or(section, |(here, _)| here)
 }
 
 /// The rows of the table under a heading, each as its cells.
 fn rows<'a>(page: &'a str, heading: &str) -> Vec<Vec<&'a str>> {
-    let (_, section) = page.split_once(heading).expect(heading);
-    let section = section.split_once("\n## ").map_or(section, |(here, _)| here);
-    let lines = section.lines().filter(|line| line.starts_with("| "));
+    let lines = section(page, heading).lines().filter(|line| line.starts_with("| "));
     lines.skip(1).map(|line| line.trim_matches('|').split(" | ").collect()).collect()
 }
 
-/// The names of the crates.
-fn crates() -> Vec<String> {
-    let list = fs::read_to_string(root().join("crates.txt")).expect("the crates");
-    let lines = list.lines().filter(|line| !line.starts_with('#'));
-    lines.filter_map(|line| Some(line.split_once(':')?.0.to_string())).collect()
-}
-
 /// Each public function of a library, and whether its contract has a `requires`.
+/// Each contract has an `ensures`: no function is public with a silent promise.
 fn public() -> BTreeMap<String, bool> {
     let mut found = BTreeMap::new();
     for name in crates() {
@@ -42,22 +28,18 @@ fn public() -> BTreeMap<String, bool> {
         let Ok(source) = fs::read_to_string(source) else {
             continue;
         };
-        let mut open: Option<String> = None;
-        for line in source.lines() {
+        let lines: Vec<&str> = source.lines().collect();
+        for (k, line) in lines.iter().enumerate() {
             let start = line.strip_prefix("pub fn ").or(line.strip_prefix("pub extern \"C\" fn "));
-            if let Some(start) = start {
-                let function = start.split('(').next().expect("a name");
-                open = Some(format!("{name}::{function}"));
-                found.insert(open.clone().expect("a name"), false);
-            }
-            if line == "{" {
-                open = None;
-            }
-            if let Some(function) = &open {
-                if line.trim_start().starts_with("requires") {
-                    found.insert(function.clone(), true);
-                }
-            }
+            let Some(start) = start else {
+                continue;
+            };
+            let function = format!("{name}::{}", start.split('(').next().expect("a name"));
+            let head: Vec<&str> = lines[k..].iter().copied().take_while(|line| *line != "{").collect();
+            let has = |word| head.iter().any(|line| line.trim_start().starts_with(word));
+            assert!(has("ensures"), "{function} promises nothing");
+            assert!(!head[1..].iter().any(|line| line.contains("fn ")), "{function}: its contract has no end");
+            found.insert(function, has("requires"));
         }
     }
     found
@@ -83,7 +65,7 @@ fn functions(cell: &str) -> Vec<String> {
 
 #[test]
 fn every_public_function_is_there_once() {
-    let page = promises();
+    let page = page("PROMISES.md");
     let mut named = BTreeSet::new();
     for row in rows(&page, "## Functions") {
         for function in functions(row[0]) {
@@ -99,48 +81,74 @@ fn every_public_function_is_there_once() {
 }
 
 #[test]
-fn what_callers_owe_is_said() {
-    let page = promises();
-    let mut asking = BTreeSet::new();
-    let mut free = BTreeSet::new();
+fn what_callers_owe_is_said_once() {
+    let page = page("PROMISES.md");
+    let mut said = BTreeMap::new();
     for row in rows(&page, "## What callers owe") {
-        match row[0].trim() {
-            "nothing" => free.extend(functions(row[1])),
-            what => {
-                assert!(what.len() > 20, "says little: {what}");
-                asking.extend(functions(row[1]));
-            }
+        let asks = row[0].trim() != "nothing";
+        for function in functions(row[1]) {
+            assert!(said.insert(function.clone(), asks).is_none(), "{function} is there twice");
         }
     }
-    for (function, asks) in public() {
-        let (here, there) = if asks { (&asking, &free) } else { (&free, &asking) };
-        assert!(here.contains(&function), "{function}: not where it belongs");
-        assert!(!there.contains(&function), "{function}: where it does not belong");
-    }
-    assert_eq!(asking.len() + free.len(), public().len());
+    assert_eq!(said, public());
 }
 
 #[test]
 fn every_edit_is_named() {
-    let page = promises();
+    let page = page("PROMISES.md");
     let tables = [rows(&page, "## Functions"), rows(&page, "## Promises about the definitions")];
     let cells = tables.iter().flatten().map(|row| row.last().expect("a cell"));
-    let named: BTreeSet<&str> = cells.flat_map(|cell| quoted(cell)).collect();
-    let mut edits = BTreeSet::new();
-    for name in crates() {
-        let Ok(files) = fs::read_dir(root().join(format!("crates/{name}/must-fail"))) else {
-            continue;
-        };
-        for file in files {
-            let file = file.expect("a file").path();
-            let edit = file.file_stem().expect("a name").to_string_lossy().to_string();
-            edits.insert(edit);
-        }
+    let named: BTreeSet<String> = cells.flat_map(|cell| quoted(cell)).map(str::to_string).collect();
+    let mut labels = BTreeSet::new();
+    for label in crates().iter().flat_map(|name| edits(name)) {
+        assert!(labels.insert(label.clone()), "two crates have an edit {label}");
     }
-    let edits: BTreeSet<&str> = edits.iter().map(String::as_str).collect();
-    let missing: Vec<_> = edits.difference(&named).collect();
-    let other: Vec<_> = named.difference(&edits).collect();
+    let missing: Vec<_> = labels.difference(&named).collect();
+    let other: Vec<_> = named.difference(&labels).collect();
     assert!(missing.is_empty() && other.is_empty(), "missing: {missing:?}; no edits: {other:?}");
     println!("{} edits", named.len());
     assert!(named.len() > 90);
+}
+
+#[test]
+fn what_is_cited_exists() {
+    let page = page("PROMISES.md");
+    let crates = crates();
+    let public = public();
+    let mut count = 0;
+    // A file, in the repository or in the crate of the row; a crate; a parameter of the
+    // row's function; a public function; else a definition of some crate.
+    let mut cited = |word: &str, row: &str| {
+        let place = row.trim().trim_start_matches('`').split("::").next().expect("a crate");
+        let mut parameters = row.split(['(', ')', ',', '`']).map(str::trim);
+        let mut names = public.keys().map(|name| name.split_once("::").expect("a crate").1);
+        count += 1;
+        if word.contains('/') {
+            return root().join(word).exists() || root().join(format!("crates/{place}/{word}")).exists();
+        }
+        !is_name(word)
+            || crates.iter().any(|name| name == word || specifies(name, word))
+            || parameters.any(|parameter| parameter == word)
+            || names.any(|name| name == word)
+    };
+    let mut wrong = Vec::new();
+    for row in rows(&page, "## Functions") {
+        wrong.extend(quoted(row[1]).filter(|word| !cited(word, row[0])).map(str::to_string));
+    }
+    let free = section(&page, "## What is left free");
+    wrong.extend(quoted(free).filter(|word| !cited(word, "")).map(str::to_string));
+    let owed = rows(&page, "## What callers owe");
+    for row in &owed {
+        wrong.extend(quoted(row[0]).filter(|word| !cited(word, "")).map(str::to_string));
+    }
+    // The crate that a theorem stands in is the first one in brackets.
+    for row in rows(&page, "## Promises about the definitions") {
+        let (theorems, place) = row[0].split_once('(').expect("a crate");
+        let place = quoted(place).next().expect("a crate");
+        wrong.extend(quoted(theorems).filter(|name| !specifies(place, name)).map(str::to_string));
+        wrong.extend(quoted(row[1]).filter(|word| !cited(word, "")).map(str::to_string));
+    }
+    assert!(wrong.is_empty(), "not found: {wrong:?}");
+    println!("{count} names");
+    assert!(count > 60);
 }

@@ -43,7 +43,7 @@ const OTHER_SURFACES: [&str; 6] = [
     "+\"🏠\\",
 ];
 
-/// A quarter of up to `most` objects.
+/// A model of up to `most` objects.
 pub fn city_model(random: &mut Random, most: usize) -> Model {
     let vertices = vertices(random);
     let count = random.between(0, most);

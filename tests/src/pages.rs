@@ -1,0 +1,64 @@
+//! The pages of `docs/` beside the sources: what a page quotes, and whether the crates have it.
+
+use std::fs;
+use std::path::{Path, PathBuf};
+
+/// The repository's folder.
+pub fn root() -> PathBuf {
+    Path::new(env!("CARGO_MANIFEST_DIR")).join("..")
+}
+
+/// A page of `docs/`.
+pub fn page(name: &str) -> String {
+    fs::read_to_string(root().join("docs").join(name)).expect(name)
+}
+
+/// The words between backquotes.
+pub fn quoted(line: &str) -> impl Iterator<Item = &str> {
+    line.split('`').skip(1).step_by(2)
+}
+
+/// Whether a text could be the name of a definition, a function or an edit.
+pub fn is_name(text: &str) -> bool {
+    let letter = |c: char| c.is_ascii_alphanumeric() || "_-".contains(c);
+    text.starts_with(|c: char| c.is_ascii_alphabetic()) && text.chars().all(letter)
+}
+
+/// The names of the crates.
+pub fn crates() -> Vec<String> {
+    let list = fs::read_to_string(root().join("crates.txt")).expect("the crates");
+    let lines = list.lines().filter(|line| !line.starts_with('#'));
+    lines.filter_map(|line| Some(line.split_once(':')?.0.to_string())).collect()
+}
+
+/// The text of a folder's files, or nothing where it is missing.
+pub fn folder(path: &Path) -> String {
+    let Ok(files) = fs::read_dir(path) else {
+        return String::new();
+    };
+    let texts = files.map(|file| fs::read_to_string(file.expect("a file").path()));
+    texts.map(|text| text.unwrap_or_default()).collect()
+}
+
+/// Whether a specification defines a name: as a line's first word, after the words before it.
+pub fn defines(specification: &str, name: &str) -> bool {
+    let before = ["pub", "data", "record", "unfoldable", "abbrev"];
+    specification.lines().any(|line| {
+        let mut words = line.split_whitespace();
+        words.find(|word| !before.contains(word)) == Some(name)
+    })
+}
+
+/// Whether the specifications of a crate define a name.
+pub fn specifies(place: &str, name: &str) -> bool {
+    defines(&folder(&root().join(format!("crates/{place}/specs"))), name)
+}
+
+/// The labels of the must-fail edits of a crate.
+pub fn edits(place: &str) -> Vec<String> {
+    let Ok(files) = fs::read_dir(root().join(format!("crates/{place}/must-fail"))) else {
+        return Vec::new();
+    };
+    let paths = files.map(|file| file.expect("a file").path());
+    paths.map(|path| path.file_stem().expect("a name").to_string_lossy().to_string()).collect()
+}
