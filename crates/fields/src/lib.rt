@@ -10,7 +10,7 @@ ghost use Rattle.nodes.specs.Says.{Node, Sought, Gives, GivesFound};
 ghost use Rattle.fields.specs.Fields.{textIn, countIn};
 ghost use Rattle.fields.specs.Says.{StringNode};
 
-// The index of the city objects: the node of each one's name, in the text's order, and how many there are.
+// The index of the city objects: the node of the name of each of the first 1,024, in the text's order, then zeros, and how many of them there are.
 pub struct Index {
     pub offsets: [usize; 1024],
     pub count: usize,

@@ -25,17 +25,17 @@ pub data Reach (l : ℕ) (x : List ℕ) : Mode → List Frame → ℕ → Type 0
   byte : {m m′ : Mode} {ks ks′ : List Frame} {n b : ℕ} → Reach l x m ks n → At x n b → step l x m ks n b ≡ go m′ ks′ → Reach l x m′ ks′ (n + 1)
 
 -- the texts x and y agree in their first n bytes
-pub record Agree (x y : List ℕ) (n : ℕ) : Type 0 where
+pub record SameTo (x y : List ℕ) (n : ℕ) : Type 0 where
   pub bytes : (i b : ℕ) → i < n → At x i b → At y i b
   pub cut : (i : ℕ) → i ≤ n → take i x ≡ take i y
 
 -- they agree in fewer
-less : {x y : List ℕ} {n : ℕ} → Agree x y (n + 1) → Agree x y n
+less : {x y : List ℕ} {n : ℕ} → SameTo x y (n + 1) → SameTo x y n
 less h = record { bytes = λ i b l. h .bytes i b (omega arith); cut = λ i l. h .cut i (omega arith) }
 
 -- a text and what begins with its first n bytes
-agree : (x u : List ℕ) (n : ℕ) → n ≤ length x → Agree x (take n x ++ u) n
-agree x u n h =
+same-to : (x u : List ℕ) (n : ℕ) → n ≤ length x → SameTo x (take n x ++ u) n
+same-to x u n h =
     let t = length-take-le n x h in
     record {
       bytes = λ i b l p. record { inside = omega (arith, length-append (take n x) u, t); byte = List·getD-append (take n x) u 0 i (omega (arith, t)) ∙ getD-take n x i 0 l ∙ p .byte };
@@ -43,11 +43,11 @@ agree x u n h =
     }
 
 -- a text and itself
-agree-self : (x : List ℕ) (n : ℕ) → Agree x x n
-agree-self x n = record { bytes = λ i b l p. p; cut = λ i l. refl }
+same-to-self : (x : List ℕ) (n : ℕ) → SameTo x x n
+same-to-self x n = record { bytes = λ i b l p. p; cut = λ i l. refl }
 
 -- a text that is read goes the same way
-along : {l l′ : ℕ} {x y : List ℕ} {t : Json} {m : Mode} {ks : List Frame} {n : ℕ} → Reach l x m ks n → Agree x y n → Acc l′ y t want [] 0 → Acc l′ y t m ks n
+along : {l l′ : ℕ} {x y : List ℕ} {t : Json} {m : Mode} {ks : List Frame} {n : ℕ} → Reach l x m ks n → SameTo x y n → Acc l′ y t want [] 0 → Acc l′ y t m ks n
 along start h a = a
 along {l} {l′} {x} {y} {t} (byte {m = m} {m′ = m′} {ks = ks} {ks′ = ks′} {n = n} {b = b} r p e) h a = by refl (rw e at (alike l l′ x y n b (h .cut n (omega arith)) m ks)) (along r (less h) a)
   where
@@ -59,7 +59,7 @@ along {l} {l′} {x} {y} {t} (byte {m = m} {m′ = m′} {ks = ks} {ks′ = ks�
     by z (right _) a′ = acc-deep q z a′
 
 -- and so does any text that agrees so far, with no fewer levels
-moved : {l l′ : ℕ} {x y : List ℕ} {m : Mode} {ks : List Frame} {n : ℕ} → Reach l x m ks n → l ≤ l′ → Agree x y n → Reach l′ y m ks n
+moved : {l l′ : ℕ} {x y : List ℕ} {m : Mode} {ks : List Frame} {n : ℕ} → Reach l x m ks n → l ≤ l′ → SameTo x y n → Reach l′ y m ks n
 moved start u h = start
 moved {l} {l′} {x} {y} (byte {m = m} {m′ = m′} {ks = ks} {ks′ = ks′} {n = n} {b = b} r p e) u h = by refl (rw e at (alike l l′ x y n b (h .cut n (omega arith)) m ks)) (moved r u (less h))
   where
@@ -84,7 +84,7 @@ begins {l} {l′} {x} {m} {ks} {n} r f u =
     let t = length-take-le n x h in
     let y = take n x ++ rest m ks in
     let e = endable l′ y m ks n (f .spelt) in
-    (rest m ks, e .tree, parsed (back (moved r u (agree x (rest m ks) n h)) (from-run (rest m ks) m ks n (drop-at (take n x) (rest m ks) n t) (omega (arith, length-append (take n x) (rest m ks), t)) (e .runs))))
+    (rest m ks, e .tree, parsed (back (moved r u (same-to x (rest m ks) n h)) (from-run (rest m ks) m ks n (drop-at (take n x) (rest m ks) n t) (omega (arith, length-append (take n x) (rest m ks), t)) (e .runs))))
 
 -- a step that is alike to one that goes on
 goes-on : {l l′ : ℕ} {s : Step} {m : Mode} {ks : List Frame} → Like l l′ s (go m ks) → (s ≡ dead → ⊥) × (s ≡ deep → l < l′)
@@ -94,7 +94,7 @@ goes-on (left o) = ((λ e. clash cc), (λ e. o))
 -- if one byte more begins a text with at most l′ levels, it is not dead, and opens a level too many only where l is less
 onward : {l l′ : ℕ} {x : List ℕ} {m : Mode} {ks : List Frame} {n b : ℕ} → Reach l x m ks n → At x n b → Begins l′ (take (n + 1) x) → (step l x m ks n b ≡ dead → ⊥) × (step l x m ks n b ≡ deep → l < l′)
 onward {l} {l′} {x} {m} {ks} {n} {b} r p (u, v, i) =
-    let h = agree x u (n + 1) (omega (arith, p .inside)) in
+    let h = same-to x u (n + 1) (omega (arith, p .inside)) in
     let a = passed (h .bytes n b (omega arith) p) (along r (less h) (derived i)) in
     goes-on (rw (a .goes) at (alike l l′ x (take (n + 1) x ++ u) n b (h .cut n (omega arith)) m ks))
 
@@ -103,7 +103,7 @@ deeper-begins : {l : ℕ} {x : List ℕ} {m : Mode} {ks : List Frame} {n b : ℕ
 deeper-begins {l} {x} {m} {ks} {n} {b} r f p e = by refl (rw e at (alike l (l + 1) x x n b refl m ks)) (fits l (l + 1) (omega arith) x m ks n b (f .levels))
   where
     on : {m′ : Mode} {ks′ : List Frame} → step (l + 1) x m ks n b ≡ go m′ ks′ → Fits l (l + 1) (go m′ ks′) → Begins (l + 1) (take (n + 1) x)
-    on z (on-go f′) = begins (byte (moved r (omega arith) (agree-self x n)) p z) f′ (omega arith)
+    on z (on-go f′) = begins (byte (moved r (omega arith) (same-to-self x n)) p z) f′ (omega arith)
 
     by : {s : Step} → step (l + 1) x m ks n b ≡ s → Like l (l + 1) deep s → Fits l (l + 1) (step (l + 1) x m ks n b) → Begins (l + 1) (take (n + 1) x)
     by z same d = no (rw z at d)

@@ -33,12 +33,13 @@ Tells x t₀ t (parsed.Deep q) = (length x ≤ 65535) × (read x ≡ tooDeep q) 
 Tells x t₀ t parsed.Long = (65535 < length x) × (t ≡ t₀)
 Tells x t₀ t parsed.Short = (length x ≤ 65535) × (2 * length t₀ < 3 * length x + 99) × (t ≡ t₀)
 
--- the answer for the text x and a table t₀
+-- the machine's outcome as an answer
 abbrev pub parsedAs : Outcome → Parsed
 parsedAs (reads v) = parsed.Nodes (size v)
 parsedAs (bad q) = parsed.Bad q
 parsedAs (tooDeep q) = parsed.Deep q
 
+-- the answer for the text x and a table t₀
 unfoldable pub answer : List ℕ → List ℕ → Parsed
 answer x t₀ = cond (ltb 65535 (length x)) parsed.Long (cond (ltb (2 * length t₀) (3 * length x + 99)) parsed.Short (parsedAs (read x)))
 

@@ -29,7 +29,7 @@ use Rattle.refusals.specs.declared.Broken.the-variants as broken
 use Rattle.judging.specs.declared.Screened.the-variants as screened
 use Rattle.judging.specs.declared.Opened.{Opened}
 use Rattle.judging.specs.declared.Opened.the-variants as opened
-use Rattle.judging.specs.Judging.{screenedAs, opening, openedAs, Room, Stands, TreeIn, Opens, Examined}
+use Rattle.judging.specs.Judging.{screenedAs, treeOrRefusal, openedAs, Room, Stands, TreeIn, Opens, Examined}
 use Rattle.judging.specs.Laws.{passed-short, passed-judged, screened-refused, opened-tree, opened-refused, table-refused, table-accepted}
 use Rattle.judging.specs.Least.{early-passes, all-passes, before-links, no-repeat, no-schema, from-five, few-objects}
 use Rattle.judging.proofs.Alone.{alone}
@@ -54,18 +54,18 @@ module _ (x : List ℕ) where
 
 module _ (x t₀ t : List ℕ) {r : Parsed} (h : Tells x t₀ t r) where
   pub open-tree : {n : ℕ} → r ≡ parse.Nodes n → Opens x t₀ t (opened.Tree n)
-  unfolding Tells openedAs opening
+  unfolding Tells openedAs treeOrRefusal
   open-tree {n} e =
       let s = subst (Tells x t₀ t) e h in
       let m : TreeIn x t₀ t n = record { tree = record { value = s .value; short = s .short; reads = s .reads; stands = s .stands; ends = s .ends }; rest = s .rest } in
       record { is = rw (s .reads, s .ends); holds = λ k q. let z : n ≡ k = cc in rw (← z) m }
 
   pub open-bad : {p : ℕ} → r ≡ parse.Bad p → Opens x t₀ t (opened.Refused (record { rule = broken.NotJson; place = p }))
-  unfolding Tells openedAs opening parsed ruleNumber
+  unfolding Tells openedAs treeOrRefusal parsed ruleNumber
   open-bad e = record { is = rw (subst (Tells x t₀ t) e h .1); holds = λ k q. clash cc }
 
   pub open-deep : {p : ℕ} → r ≡ parse.Deep p → Opens x t₀ t (opened.Refused (record { rule = broken.TooDeep; place = p }))
-  unfolding Tells openedAs opening parsed ruleNumber
+  unfolding Tells openedAs treeOrRefusal parsed ruleNumber
   open-deep e = record { is = rw (subst (Tells x t₀ t) e h .1); holds = λ k q. clash cc }
 
   -- neither happens

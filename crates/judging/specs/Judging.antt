@@ -46,13 +46,13 @@ screenedAs screened.Passed = none
 screenedAs (screened.Refused f) = some (refusal f)
 
 -- rules 3 and 4: how many words the tree takes that a text is read as, or the refusal by one of them
-unfoldable pub opening : Outcome → ℕ ⊎ verdict.Verdict
+unfoldable pub treeOrRefusal : Outcome → ℕ ⊎ verdict.Verdict
 unfolding size
-opening (reads v) = inl (size v)
-opening (bad p) = inr (verdict.parsed (bad p))
-opening (tooDeep p) = inr (verdict.parsed (tooDeep p))
+treeOrRefusal (reads v) = inl (size v)
+treeOrRefusal (bad p) = inr (verdict.parsed (bad p))
+treeOrRefusal (tooDeep p) = inr (verdict.parsed (tooDeep p))
 
--- what `open` answers, as that
+-- what `open` answers, in that form
 unfoldable pub openedAs : Opened → ℕ ⊎ verdict.Verdict
 openedAs (opened.Tree n) = inl n
 openedAs (opened.Refused f) = inr (refusal f)
@@ -64,7 +64,7 @@ pub record TreeIn (x t₀ t : List ℕ) (n : ℕ) : Type 0 where
 
 -- r is the answer for the text x, and what the table holds if that is a tree
 pub record Opens (x t₀ t : List ℕ) (r : Opened) : Type 0 where
-  pub is : openedAs r ≡ opening (read x)
+  pub is : openedAs r ≡ treeOrRefusal (read x)
   pub holds : (n : ℕ) → r ≡ opened.Tree n → TreeIn x t₀ t n
 
 -- the least fault of the rules 5 to 17 of the tree that the text x is read as, and the index over the table t of its city objects

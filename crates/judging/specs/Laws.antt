@@ -26,7 +26,7 @@ use Rattle.judging.specs.declared.Opened.{Opened}
 use Rattle.judging.specs.declared.Opened.the-variants as opened
 use Rattle.judging.specs.declared.Verdict.{Verdict}
 use Rattle.judging.specs.declared.Verdict.the-variants.{Accepted, Refused}
-use Rattle.judging.specs.Judging.{verdictOf, screenedAs, opening, openedAs, Stands, Opens, Examined}
+use Rattle.judging.specs.Judging.{verdictOf, screenedAs, treeOrRefusal, openedAs, Stands, Opens, Examined}
 use Rattle.judging.specs.Least.{no-fault, judged-fault, judged-none, few-clean}
 
 -- ---- rules 1 and 2
@@ -72,10 +72,10 @@ module _ (x t₀ t : List ℕ) {r : Opened} (h : Opens x t₀ t r) where
   opened-tree e = h .holds _ e .tree
 
   pub opened-refused : {f : Refusal} → r ≡ opened.Refused f → verdictOf (Refused f) ≡ parsed (read x)
-  unfolding verdictOf openedAs opening parsed
+  unfolding verdictOf openedAs treeOrRefusal parsed
   opened-refused {f} e = by (read x) (sym (ap openedAs e) ∙ h .is)
     where
-      by : (o : Outcome) → inr (refusal f) ≡ opening o → refusal f ≡ parsed o
+      by : (o : Outcome) → inr (refusal f) ≡ treeOrRefusal o → refusal f ≡ parsed o
       by (reads v) q = clash cc
       by (bad p) q = cc
       by (tooDeep p) q = cc

@@ -77,7 +77,7 @@ pub fn open(text: &[u8], table: &mut [u32]) -> Opened
 }
 
 // The least fault of the rules 5 to 17 of a text, whose tree's words are the first n of the table, and the index of its city objects.
-// Every fault is below 18 * 65,536.
+// Every fault is below NO_FAULT.
 pub fn examine(text: &[u8], table: &[u32], n: usize) -> Walked
     requires { ⌜ Stands (now text) (now table) n ⌝ }
     ensures { λ r. ⌜ Examined (now (text .entry)) (now (table .entry)) r ⌝ }

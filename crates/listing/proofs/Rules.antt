@@ -22,7 +22,7 @@ use Rattle.laying.specs.declared.Answer.the-variants.{Laid, Refused}
 use Rattle.laying.specs.Laying.{answered}
 use Rattle.writer.specs.Writes.{Writes, Skips}
 use Rattle.writer.specs.Laws.{then}
-use Rattle.listing.specs.Line.{spelled, decimal, lineOf, Spells, Lists}
+use Rattle.listing.specs.Line.{spelled, decimalDigits, lineOf, Spells, Lists}
 
 -- ---- bytes
 
@@ -109,9 +109,9 @@ fewest-20 n k h f = by-test (leb k 20) refl
         absurd (omega (arith, f .2 (omega arith), pow-le-pow-right {n = 10} (omega arith) {i = 20} {j = k - 1} (omega arith)))
 
 pub spell : (n k : ℕ) (ds : List ℕ) {d₀ d : List ℕ} {at r : ℕ} → n < 2 ^ 64 → Counts k ds → Fewest 10 1 n k → take k ds ≡ digits 10 k n → Writes (take k ds) d₀ d at r → Spells n d₀ d at r
-unfolding decimal
+unfolding decimalDigits
 spell n k ds l h f e w =
-    let q : take k ds ≡ decimal n = e ∙ spelled-digits n k n (omega arith) f in
+    let q : take k ds ≡ decimalDigits n = e ∙ spelled-digits n k n (omega arith) f in
     record { writes = rw q at w; short = rw (← q) (omega (arith, h .1, fewest-20 n k l f)) }
 
 -- ---- lines
@@ -119,11 +119,11 @@ spell n k ds l h f e w =
 -- two numbers among words that are short enough for the room
 pub line-of : (a b c : List ℕ) {m n : ℕ} {d₀ d₁ d₂ d₃ d₄ d : List ℕ} {p q s t r : ℕ} → length a + length b + length c ≤ 24 → length d₀ ≡ 64
     → Writes a d₀ d₁ 0 p → Spells m d₁ d₂ p q → Writes b d₂ d₃ q s → Spells n d₃ d₄ s t → Writes c d₄ d t r
-    → Lists (a ++ decimal m ++ b ++ decimal n ++ c) d₀ d r
+    → Lists (a ++ decimalDigits m ++ b ++ decimalDigits n ++ c) d₀ d r
 line-of a b c {m} {n} {d₀} {r = r} fit room f g h i j =
     let all = then (then (then (then f (g .writes)) h) (i .writes)) j in
-    let ws : List ℕ = a ++ decimal m ++ b ++ decimal n ++ c in
-    let size : length ws ≡ length a + length (decimal m) + length b + length (decimal n) + length c = simp length-append in
+    let ws : List ℕ = a ++ decimalDigits m ++ b ++ decimalDigits n ++ c in
+    let size : length ws ≡ length a + length (decimalDigits m) + length b + length (decimalDigits n) + length c = simp length-append in
     let short : length ws ≤ 64 = omega (arith, g .short, i .short) in
     let ends : r ≡ length ws = omega (arith, all .ends) in
     record {

@@ -15,20 +15,20 @@ spelled zero n = (48 + n % 10) ∷ []
 spelled (suc more) n = elim (ltb n 10) [ true ↦ (48 + n) ∷ [] | false ↦ spelled more (n / 10) ++ ((48 + n % 10) ∷ []) ]
 
 -- a number has no more digits than its value and one
-unfoldable pub decimal : ℕ → List ℕ
+unfoldable pub decimalDigits : ℕ → List ℕ
 unfolding spelled
-decimal n = spelled n n
+decimalDigits n = spelled n n
 
 -- "prints exactly `laid 78 bytes, objects 0` and a line feed; for `{}` it prints `refused 8 at 0`"
 unfoldable pub lineOf : Answer → List ℕ
-unfolding ascii decimal
-lineOf (laid size objects) = ascii "laid " ++ decimal size ++ ascii " bytes, objects " ++ decimal objects ++ (10 ∷ [])
-lineOf (refused rule place) = ascii "refused " ++ decimal rule ++ ascii " at " ++ decimal place ++ (10 ∷ [])
+unfolding ascii decimalDigits
+lineOf (laid size objects) = ascii "laid " ++ decimalDigits size ++ ascii " bytes, objects " ++ decimalDigits objects ++ (10 ∷ [])
+lineOf (refused rule place) = ascii "refused " ++ decimalDigits rule ++ ascii " at " ++ decimalDigits place ++ (10 ∷ [])
 
 -- the number n was to be written from `to` on, in at most 20 digits, and the cursor is r afterwards; the room was d₀ and is d
 pub record Spells (n : ℕ) (d₀ d : List ℕ) (to r : ℕ) : Type 0 where
-  pub writes : Writes (decimal n) d₀ d to r
-  pub short : length (decimal n) ≤ 20
+  pub writes : Writes (decimalDigits n) d₀ d to r
+  pub short : length (decimalDigits n) ≤ 20
 
 -- the room was d₀ and is d: the line ws, of r bytes, and after it what was there
 pub record Lists (ws d₀ d : List ℕ) (r : ℕ) : Type 0 where

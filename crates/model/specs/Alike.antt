@@ -48,6 +48,7 @@ pub data Shape : Type 0 where
   entries : Shape → Shape
   -- an object: this of the member of this name, and more
   field : String → Shape → Shape → Shape
+  -- nothing more
   none-else : Shape
 
 -- both absent, or both present with R between them
@@ -57,6 +58,7 @@ Perhaps R option.none (some k) = ⊥
 Perhaps R (some j) option.none = ⊥
 Perhaps R (some j) (some k) = R j k
 
+-- two values agree in what is examined of them
 unfoldable pub Agree : Shape → Json → Json → Type 0
 Agree whole j k = Same j k
 Agree (list s) j k = Both (Agree s) (elements j) (elements k)
@@ -84,6 +86,7 @@ rootShape =
     field "type" whole (field "version" whole (field "transform" transformShape
     (field "CityObjects" (entries objectShape) (field "vertices" whole none-else))))
 
+-- document 01's "alike", of the trees of two texts: unexamined members are left out, and the city objects are compared in text order
 unfoldable pub Alike : Json → Json → Type 0
 Alike = Agree rootShape
 

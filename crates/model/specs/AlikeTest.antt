@@ -1,5 +1,5 @@
 -- A test that only agreeing trees pass, so that examples of `Alike` are computed.
--- Not every pair that agrees passes: no Boolean and no object does that is examined whole.
+-- It fails for Booleans and objects that are examined whole, though these may agree; the examples have none.
 use mathlib.Core.Path.{_≡_, refl, ap}
 use mathlib.Core.List.{List, [], _∷_}
 use mathlib.Core.Bool.{Bool, true, false, _&&_}
@@ -19,44 +19,44 @@ use Rattle.model.specs.Good.{Both}
 use Rattle.model.specs.Alike.{Same, SameAll, Shape, whole, list, entries, field, none-else, Perhaps, Agree}
 
 -- equal integers; equal decimals
-eqz : ℤ → ℤ → Bool
-eqz (pos m) (pos n) = eqb m n
-eqz (pos m) (negsuc n) = false
-eqz (negsuc m) (pos n) = false
-eqz (negsuc m) (negsuc n) = eqb m n
+sameInteger : ℤ → ℤ → Bool
+sameInteger (pos m) (pos n) = eqb m n
+sameInteger (pos m) (negsuc n) = false
+sameInteger (negsuc m) (pos n) = false
+sameInteger (negsuc m) (negsuc n) = eqb m n
 
-eqz-equal : (x y : ℤ) → eqz x y ≡ true → x ≡ y
-unfolding eqz
-eqz-equal (pos m) (pos n) t = ap pos (eqb-true m n t)
-eqz-equal (pos m) (negsuc n) t = clash cc
-eqz-equal (negsuc m) (pos n) t = clash cc
-eqz-equal (negsuc m) (negsuc n) t = ap negsuc (eqb-true m n t)
+sameInteger-equal : (x y : ℤ) → sameInteger x y ≡ true → x ≡ y
+unfolding sameInteger
+sameInteger-equal (pos m) (pos n) t = ap pos (eqb-true m n t)
+sameInteger-equal (pos m) (negsuc n) t = clash cc
+sameInteger-equal (negsuc m) (pos n) t = clash cc
+sameInteger-equal (negsuc m) (negsuc n) t = ap negsuc (eqb-true m n t)
 
-eqd : Decimal → Decimal → Bool
-eqd x y = eqz (x .m) (y .m) && eqz (x .e) (y .e)
+sameDecimal : Decimal → Decimal → Bool
+sameDecimal x y = sameInteger (x .m) (y .m) && sameInteger (x .e) (y .e)
 
-eqd-equal : (x y : Decimal) → eqd x y ≡ true → x ≡ y
-unfolding eqd
-eqd-equal x y t =
-    let p = eqz-equal (x .m) (y .m) (both-left _ _ t) in
-    let q = eqz-equal (x .e) (y .e) (both-right (eqz (x .m) (y .m)) _ t) in
+sameDecimal-equal : (x y : Decimal) → sameDecimal x y ≡ true → x ≡ y
+unfolding sameDecimal
+sameDecimal-equal x y t =
+    let p = sameInteger-equal (x .m) (y .m) (both-left _ _ t) in
+    let q = sameInteger-equal (x .e) (y .e) (both-right (sameInteger (x .m) (y .m)) _ t) in
     λ i. record { m = p i; e = q i }
 
 -- lists of one length whose elements pass
-all2 : {A : Type 0} → (A → A → Bool) → List A → List A → Bool
-all2 t [] [] = true
-all2 t [] (b ∷ m) = false
-all2 t (a ∷ l) [] = false
-all2 t (a ∷ l) (b ∷ m) = t a b && all2 t l m
+allPairs : {A : Type 0} → (A → A → Bool) → List A → List A → Bool
+allPairs t [] [] = true
+allPairs t [] (b ∷ m) = false
+allPairs t (a ∷ l) [] = false
+allPairs t (a ∷ l) (b ∷ m) = t a b && allPairs t l m
 
-all2-both : {A : Type 0} (t : A → A → Bool) (R : A → A → Type 0) → ((a b : A) → t a b ≡ true → R a b) → (l m : List A) → all2 t l m ≡ true → Both R l m
-unfolding all2
-all2-both t R one [] [] e = tt
-all2-both t R one [] (b ∷ m) e = clash cc
-all2-both t R one (a ∷ l) [] e = clash cc
-all2-both t R one (a ∷ l) (b ∷ m) e = (one a b (both-left _ _ e), all2-both t R one l m (both-right (t a b) _ e))
+allPairs-both : {A : Type 0} (t : A → A → Bool) (R : A → A → Type 0) → ((a b : A) → t a b ≡ true → R a b) → (l m : List A) → allPairs t l m ≡ true → Both R l m
+unfolding allPairs
+allPairs-both t R one [] [] e = tt
+allPairs-both t R one [] (b ∷ m) e = clash cc
+allPairs-both t R one (a ∷ l) [] e = clash cc
+allPairs-both t R one (a ∷ l) (b ∷ m) e = (one a b (both-left _ _ e), allPairs-both t R one l m (both-right (t a b) _ e))
 
--- a value is a number, a string, an array or null
+-- what the tests of a value's kind tell of its form
 is-null : (k : Json) → isNullValue k ≡ true → (q f : ℕ) × (k ≡ null q f)
 unfolding isNullValue
 is-null (null p e) t = (p, e, refl)
@@ -66,12 +66,12 @@ is-null (str p e raw) t = clash cc
 is-null (arr p e vs) t = clash cc
 is-null (obj p e ms) t = clash cc
 
-is-number : (k : Json) (d : Decimal) → (isNumberValue k && eqd d (decimal (numeralOf k))) ≡ true
+is-number : (k : Json) (d : Decimal) → (isNumberValue k && sameDecimal d (decimal (numeralOf k))) ≡ true
     → (q f : ℕ) × (raw : List ℕ) × (k ≡ num q f raw) × (d ≡ decimal raw)
 unfolding isNumberValue numeralOf
 is-number (null p e) d t = clash cc
 is-number (bool p e b) d t = clash cc
-is-number (num p e raw) d t = (p, e, raw, refl, eqd-equal d (decimal raw) t)
+is-number (num p e raw) d t = (p, e, raw, refl, sameDecimal-equal d (decimal raw) t)
 is-number (str p e raw) d t = clash cc
 is-number (arr p e vs) d t = clash cc
 is-number (obj p e ms) d t = clash cc
@@ -96,38 +96,38 @@ is-array (obj p e ms) t = clash cc
 
 -- two values agree
 mutual
-  sames : Json → Json → Bool
-  sames (null p e) k = isNullValue k
-  sames (bool p e b) k = false
-  sames (num p e raw) k = isNumberValue k && eqd (decimal raw) (decimal (numeralOf k))
-  sames (str p e raw) k = isStringValue k && same (decode raw) (textOf k)
-  sames (arr p e vs) k = isArrayValue k && samesAll vs (elements k)
-  sames (obj p e ms) k = false
+  isSame : Json → Json → Bool
+  isSame (null p e) k = isNullValue k
+  isSame (bool p e b) k = false
+  isSame (num p e raw) k = isNumberValue k && sameDecimal (decimal raw) (decimal (numeralOf k))
+  isSame (str p e raw) k = isStringValue k && same (decode raw) (textOf k)
+  isSame (arr p e vs) k = isArrayValue k && isSameAll vs (elements k)
+  isSame (obj p e ms) k = false
 
-  samesAll : Items → List Json → Bool
-  samesAll noItems [] = true
-  samesAll noItems (k ∷ l) = false
-  samesAll (j ▸ v) [] = false
-  samesAll (j ▸ v) (k ∷ l) = sames j k && samesAll v l
+  isSameAll : Items → List Json → Bool
+  isSameAll noItems [] = true
+  isSameAll noItems (k ∷ l) = false
+  isSameAll (j ▸ v) [] = false
+  isSameAll (j ▸ v) (k ∷ l) = isSame j k && isSameAll v l
 
 mutual
-  unfolding Same sames elements
+  unfolding Same isSame elements
 
-  sames-same : (j k : Json) → sames j k ≡ true → Same j k
-  sames-same (null p e) k t = is-null k t
-  sames-same (bool p e b) k t = clash cc
-  sames-same (num p e raw) k t = is-number k (decimal raw) t
-  sames-same (str p e raw) k t = is-string k (decode raw) t
-  sames-same (arr p e vs) k t =
+  isSame-same : (j k : Json) → isSame j k ≡ true → Same j k
+  isSame-same (null p e) k t = is-null k t
+  isSame-same (bool p e b) k t = clash cc
+  isSame-same (num p e raw) k t = is-number k (decimal raw) t
+  isSame-same (str p e raw) k t = is-string k (decode raw) t
+  isSame-same (arr p e vs) k t =
       let (q, f, us, z) = is-array k (both-left _ _ t) in
-      (q, f, us, z, samesAll-same vs (listed us) (rw z at (both-right (isArrayValue k) _ t)))
-  sames-same (obj p e ms) k t = clash cc
+      (q, f, us, z, isSameAll-same vs (listed us) (rw z at (both-right (isArrayValue k) _ t)))
+  isSame-same (obj p e ms) k t = clash cc
 
-  samesAll-same : (vs : Items) (l : List Json) → samesAll vs l ≡ true → SameAll vs l
-  samesAll-same noItems [] t = tt
-  samesAll-same noItems (k ∷ l) t = clash cc
-  samesAll-same (j ▸ v) [] t = clash cc
-  samesAll-same (j ▸ v) (k ∷ l) t = (sames-same j k (both-left _ _ t), samesAll-same v l (both-right (sames j k) _ t))
+  isSameAll-same : (vs : Items) (l : List Json) → isSameAll vs l ≡ true → SameAll vs l
+  isSameAll-same noItems [] t = tt
+  isSameAll-same noItems (k ∷ l) t = clash cc
+  isSameAll-same (j ▸ v) [] t = clash cc
+  isSameAll-same (j ▸ v) (k ∷ l) t = (isSame-same j k (both-left _ _ t), isSameAll-same v l (both-right (isSame j k) _ t))
 
 perhaps : (Json → Json → Bool) → Option Json → Option Json → Bool
 perhaps t option.none option.none = true
@@ -144,20 +144,20 @@ perhaps-so t R one (some j) option.none e = clash cc
 perhaps-so t R one (some j) (some k) e = one j k e
 
 unfoldable pub agrees : Shape → Json → Json → Bool
-unfolding sames all2 perhaps eqd eqz
-agrees whole j k = sames j k
-agrees (list s) j k = all2 (agrees s) (elements j) (elements k)
-agrees (entries s) j k = all2 (λ a b. same (nameOf a) (nameOf b) && agrees s (a .1) (b .1)) (members j) (members k)
+unfolding isSame allPairs perhaps sameDecimal sameInteger
+agrees whole j k = isSame j k
+agrees (list s) j k = allPairs (agrees s) (elements j) (elements k)
+agrees (entries s) j k = allPairs (λ a b. same (nameOf a) (nameOf b) && agrees s (a .1) (b .1)) (members j) (members k)
 agrees (field n s r) j k = perhaps (agrees s) (find n j) (find n k) && agrees r j k
 agrees none-else j k = true
 
 -- trees that pass agree
 pub agrees-agree : (s : Shape) (j k : Json) → agrees s j k ≡ true → Agree s j k
 unfolding agrees Agree
-agrees-agree whole j k t = sames-same j k t
-agrees-agree (list s) j k t = all2-both (agrees s) (Agree s) (agrees-agree s) (elements j) (elements k) t
+agrees-agree whole j k t = isSame-same j k t
+agrees-agree (list s) j k t = allPairs-both (agrees s) (Agree s) (agrees-agree s) (elements j) (elements k) t
 agrees-agree (entries s) j k t =
-    all2-both _ _ (λ a b e. (same-equal _ _ (both-left _ _ e), agrees-agree s (a .1) (b .1) (both-right (same (nameOf a) (nameOf b)) _ e)))
+    allPairs-both _ _ (λ a b e. (same-equal _ _ (both-left _ _ e), agrees-agree s (a .1) (b .1) (both-right (same (nameOf a) (nameOf b)) _ e)))
     (members j) (members k) t
 agrees-agree (field n s r) j k t = (
   perhaps-so (agrees s) (Agree s) (agrees-agree s) (find n j) (find n k) (both-left _ _ t),

@@ -9,39 +9,13 @@ use lib.IntN.{ℤ, pos, negsuc, natAbs}
 use lib.Signed.{mag}
 use Rattle.utf8.specs.Bytes.{le}
 use Rattle.model.specs.Code.{signed, concatMap, All}
+use Rattle.model.specs.Lists.{all-map, all-both, all-append, all-each, all-of-map, all-in-map}
 use Rattle.numerals.specs.Numerals.{Decimal}
 use Rattle.words.specs.Words.{depth, valuesDepth}
 use Rattle.model.specs.Model.{Nest, Three, Surface, listed, added, Semantics, Geometry, Object, Model, ModelOf, Rec, rec}
 use Rattle.model.specs.Model.{layRec, layThree, lodCode, layNest, layValues, surfaceRecs, semanticsRecs, geometryRecs, objectRecs, endRecs, modelRecs, layModel, sheetOf, objectNumber, idsOf, numberObject, numberModel}
 use Rattle.model.specs.Good.{AllThree, Leaves, GoodDecimal, GoodSurface, GoodValue, GoodSemantics, GoodGeometry, Known, GoodObject, GoodModel}
 use Rattle.model.specs.Fits.{Word, Half, FitDecimal, FitNest, FitValue, FitSurface, FitSemantics, FitGeometry, FitObject, FitRec, FitModel}
-
--- ---- All
-
-all-map : {A : Type 0} {P Q : A → Type 0} → ((a : A) → P a → Q a) → (l : List A) → All P l → All Q l
-all-map f [] g = tt
-all-map f (a ∷ l) g = (f a (g .0), all-map f l (g .1))
-
-all-two : {A : Type 0} {P Q R : A → Type 0} → ((a : A) → P a → Q a → R a) → (l : List A) → All P l → All Q l → All R l
-all-two f [] g h = tt
-all-two f (a ∷ l) g h = (f a (g .0) (h .0), all-two f l (g .1) (h .1))
-
-pub all-append : {A : Type 0} (P : A → Type 0) (l m : List A) → All P l → All P m → All P (l ++ m)
-all-append P [] m g h = h
-all-append P (a ∷ l) m g h = (g .0, all-append P l m (g .1) h)
-
-all-each : {A B : Type 0} (P : B → Type 0) (f : A → List B) → ((a : A) → All P (f a)) → (l : List A) → All P (concatMap f l)
-unfolding concatMap
-all-each P f g [] = tt
-all-each P f g (a ∷ l) = all-append P (f a) (concatMap f l) (g a) (all-each P f g l)
-
-all-of-map : {A B : Type 0} (P : B → Type 0) (f : A → B) (l : List A) → All (λ a. P (f a)) l → All P (map f l)
-all-of-map P f [] g = tt
-all-of-map P f (a ∷ l) g = (g .0, all-of-map P f l (g .1))
-
-all-in-map : {A B : Type 0} (P : B → Type 0) (f : A → B) (l : List A) → All P (map f l) → All (λ a. P (f a)) l
-all-in-map P f [] g = tt
-all-in-map P f (a ∷ l) g = (g .0, all-in-map P f l (g .1))
 
 -- ---- lengths
 
@@ -103,7 +77,7 @@ nest-fits v h zero n g s = omega arith
 nest-fits v h (suc d) l g s =
     let e = length-append (le 4 (length l)) (concatMap (layNest d) l) in
     let c = count (layNest d) (layNest-some d) l in
-    (omega arith, all-two (nest-fits v h d) l g (parts (layNest d) (2 ^ 32) l (omega arith)))
+    (omega arith, all-both _ _ _ (nest-fits v h d) l g (parts (layNest d) (2 ^ 32) l (omega arith)))
 
 leaves-map : {A : Type 0} {P Q : A → Type 0} → ((a : A) → P a → Q a) → (d : ℕ) (l : Nest A d) → Leaves P d l → Leaves Q d l
 leaves-map f zero a g = f a g
@@ -179,7 +153,7 @@ object-fits v hv ids hi o g w =
       code = omega (arith, g .code);
       children = known-fits ids hi (o .children) (g .children);
       parents = known-fits ids hi (o .parents) (g .parents);
-      geometries = all-two (geometry-fits v hv) (o .geometries) (g .geometries) (weight-parts geometryRecs (2 ^ 32) (o .geometries) (omega arith));
+      geometries = all-both _ _ _ (geometry-fits v hv) (o .geometries) (g .geometries) (weight-parts geometryRecs (2 ^ 32) (o .geometries) (omega arith));
     }
 
 -- every kind is small
@@ -226,6 +200,6 @@ model-fits t g =
       translate = three-map decimal-fits (t .translate) (g .translate);
       vertices = all-map (three-map (λ z h. omega arith)) (t .vertices) (g .vertices);
       objects = all-of-map FitObject (numberObject ids) (t .objects)
-          (all-two (object-fits (length (t .vertices)) v ids i) (t .objects) (g .objects) each-light);
-      payloads = all-two rec-fits (modelRecs u) (model-kinds u) (parts layRec (2 ^ 32) (modelRecs u) w);
+          (all-both _ _ _ (object-fits (length (t .vertices)) v ids i) (t .objects) (g .objects) each-light);
+      payloads = all-both _ _ _ rec-fits (modelRecs u) (model-kinds u) (parts layRec (2 ^ 32) (modelRecs u) w);
     }

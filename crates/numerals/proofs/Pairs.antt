@@ -26,10 +26,10 @@ use Rattle.numerals.specs.declared.Sum.{Sum}
 use Rattle.numerals.specs.declared.Mantissa.{Mantissa}
 use Rattle.numerals.specs.declared.Mantissa.the-variants.{Read, Large}
 use Rattle.numerals.specs.declared.Power.{Power}
-use Rattle.numerals.specs.declared.Power.the-variants.{Near, Far}
+use Rattle.numerals.specs.declared.Power.the-variants.{Ranged, Beyond}
 use Rattle.numerals.proofs.Bytes.{digits-more, digits-same}
 use Rattle.numerals.proofs.Wholes.{signed-fits}
-use Rattle.numerals.proofs.Powers.{far-up, far-down, power-up, power-down}
+use Rattle.numerals.proofs.Powers.{beyond-up, beyond-down, power-up, power-down}
 use Rattle.numerals.proofs.Sums.{taken-yes, taken-no}
 
 -- ---- the bytes read one at a time give the digits trimmed, and the places
@@ -107,12 +107,12 @@ either n m = by-test (ltb n m) refl
 module _ (z p : ℕ) (zl : z < 2 ^ 63) (pl : p < 2 ^ 63) where
   big : (neg : Bool) (n : ℕ) → 2 ^ 64 - 1 ≤ n → 22 < natAbs (powerOf z p neg n)
   unfolding Reaches
-  big true n h = subst (λ t. Reaches t Far) (sym (power-down z p n)) (far-down z (n + p) (omega arith) (omega arith))
-  big false n h = subst (λ t. Reaches t Far) (sym (power-up z p n)) (far-up (z + n) p (omega arith) (omega arith))
+  big true n h = subst (λ t. Reaches t Beyond) (sym (power-down z p n)) (beyond-down z (n + p) (omega arith) (omega arith))
+  big false n h = subst (λ t. Reaches t Beyond) (sym (power-up z p n)) (beyond-up (z + n) p (omega arith) (omega arith))
 
   module _ (neg : Bool) (n : ℕ) where
-    far-exact : 22 < natAbs (powerOf z p neg (min n (2 ^ 64 - 1))) → 22 < natAbs (powerOf z p neg n)
-    far-exact h = ⊎-elim (λ q. subst (λ t. 22 < natAbs (powerOf z p neg t)) q h) (λ q. big neg n (q .0)) (either n (2 ^ 64 - 1))
+    beyond-exact : 22 < natAbs (powerOf z p neg (min n (2 ^ 64 - 1))) → 22 < natAbs (powerOf z p neg n)
+    beyond-exact h = ⊎-elim (λ q. subst (λ t. 22 < natAbs (powerOf z p neg t)) q h) (λ q. big neg n (q .0)) (either n (2 ^ 64 - 1))
 
     ranged-exact : natAbs (powerOf z p neg (min n (2 ^ 64 - 1))) ≤ 22 → min n (2 ^ 64 - 1) ≡ n
     ranged-exact h = ⊎-elim (λ q. q) (λ q. absurd (lost (q .1))) (either n (2 ^ 64 - 1))
@@ -135,9 +135,9 @@ module _ (d : Decimal) where
   unfolding inRange
   range-large h = rw (le-ltb (natAbs (d .m)) (10 ^ 15) h)
 
-  range-far : 22 < natAbs (d .e) → inRange d ≡ false
+  range-beyond : 22 < natAbs (d .e) → inRange d ≡ false
   unfolding inRange
-  range-far h = rw (lt-leb (natAbs (d .e)) 22 h) (and-false (ltb (natAbs (d .m)) (10 ^ 15)))
+  range-beyond h = rw (lt-leb (natAbs (d .e)) 22 h) (and-false (ltb (natAbs (d .m)) (10 ^ 15)))
     where
       and-false : (x : Bool) → x && false ≡ false
       and-false true = refl
@@ -213,11 +213,11 @@ module _ (text : List ℕ) (at end : ℕ) {r : Mantissa} {s : Sum} {next : ℕ} 
         ap (λ b. powerOf (s .zeros) (s .places) b (w .magnitude)) (v .sign ∙ ap negative (is-read .rest))
         ∙ ap (powerOf (s .zeros) (s .places) minus) (v .size ∙ ap saturated (is-read .rest))
 
-    far : 22 < natAbs read-power → none ≡ pairOf (slice at end text)
+    beyond : 22 < natAbs read-power → none ≡ pairOf (slice at end text)
     unfolding minus size exact
-    far b =
-        let a = far-exact (s .zeros) (s .places) (is-read .room .zeros) (is-read .room .places) minus size (subst (λ k. 22 < natAbs k) stopped b) in
-        pair-none (slice at end text) _ (decimal-other (slice at end text) s (is-read .sum) n) (range-far _ a)
+    beyond b =
+        let a = beyond-exact (s .zeros) (s .places) (is-read .room .zeros) (is-read .room .places) minus size (subst (λ k. 22 < natAbs k) stopped b) in
+        pair-none (slice at end text) _ (decimal-other (slice at end text) s (is-read .sum) n) (range-beyond _ a)
 
     ranged : natAbs read-power ≤ 22 → some (record { m = signed (negative (slice at end text)) (s .m); e = read-power }) ≡ pairOf (slice at end text)
     unfolding minus size exact
@@ -230,11 +230,11 @@ module _ (text : List ℕ) (at end : ℕ) {r : Mantissa} {s : Sum} {next : ℕ} 
         (decimal-other (slice at end text) s (is-read .sum) n ∙ (λ i. record { m = signed (negative (slice at end text)) (s .m); e = sym x i }))
         (range-yes _ (rw (natAbs-signed (negative (slice at end text)) (s .m)) (is-read .room .m)) b)
 
-    pub pair-far : {t : Power} → t ≡ Far → Reaches (powerOf (s .zeros) (s .places) (w .negative) (w .magnitude)) t → pairIn Out ≡ pairOf (slice at end text)
+    pub pair-beyond : {t : Power} → t ≡ Beyond → Reaches (powerOf (s .zeros) (s .places) (w .negative) (w .magnitude)) t → pairIn Out ≡ pairOf (slice at end text)
     unfolding pairIn Reaches read-power
-    pair-far f p = far (subst (Reaches read-power) f p)
+    pair-beyond f p = beyond (subst (Reaches read-power) f p)
 
-    pub pair-ranged : {t : Power} {e m : ℤ} {neg : Bool} → t ≡ Near e → Reaches (powerOf (s .zeros) (s .places) (w .negative) (w .magnitude)) t → neg ≡ negative (slice at end text) → m ≡ signed neg (s .m) → pairIn (Pair (toZ w64 (ofZ w64 m)) (toZ w64 (ofZ w64 e))) ≡ pairOf (slice at end text)
+    pub pair-ranged : {t : Power} {e m : ℤ} {neg : Bool} → t ≡ Ranged e → Reaches (powerOf (s .zeros) (s .places) (w .negative) (w .magnitude)) t → neg ≡ negative (slice at end text) → m ≡ signed neg (s .m) → pairIn (Pair (toZ w64 (ofZ w64 m)) (toZ w64 (ofZ w64 e))) ≡ pairOf (slice at end text)
     unfolding pairIn Reaches read-power
     pair-ranged {t} {e} {m} {neg} f p g x =
         let b = subst (Reaches read-power) f p in
@@ -242,4 +242,4 @@ module _ (text : List ℕ) (at end : ℕ) {r : Mantissa} {s : Sum} {next : ℕ} 
         let z : toZ w64 (ofZ w64 e) ≡ read-power = rw (b .0) (toZ-ofZ (ranged-fits read-power (b .1))) in
         ap some (λ i. record { m = y i; e = z i }) ∙ ranged (b .1)
 
-pub ruleset pairs = (needs, pair-large, next-high, m-fits, pair-zero, pair-far, pair-ranged)
+pub ruleset pairs = (needs, pair-large, next-high, m-fits, pair-zero, pair-beyond, pair-ranged)

@@ -13,7 +13,7 @@ use borrow.Author.Needs.{needs}
 use Rattle.numerals.specs.Numerals.{signed}
 use Rattle.numerals.specs.Reading.{Reaches, powerOf}
 use Rattle.numerals.specs.declared.Power.{Power}
-use Rattle.numerals.specs.declared.Power.the-variants.{Near, Far}
+use Rattle.numerals.specs.declared.Power.the-variants.{Ranged, Beyond}
 use Rattle.numerals.proofs.Wholes.{signed-fits}
 
 -- ---- a difference
@@ -33,19 +33,19 @@ same-gap a b u d e = by-test (ltb a b) refl
     by-test false q = let h : b ≤ a = omega (arith, ltb-false a b q) in sub-up a b h ∙ ap pos (omega arith) ∙ sym (sub-up u d (omega arith))
 
 module _ (a b : ℕ) where
-  pub far-up : b ≤ a → 22 < a - b → Reaches (subℕ a b) Far
+  pub beyond-up : b ≤ a → 22 < a - b → Reaches (subℕ a b) Beyond
   unfolding Reaches
-  far-up h l = rw (sub-up a b h) l
+  beyond-up h l = rw (sub-up a b h) l
 
-  pub far-down : a < b → 22 < b - a → Reaches (subℕ a b) Far
+  pub beyond-down : a < b → 22 < b - a → Reaches (subℕ a b) Beyond
   unfolding Reaches
-  far-down h l = rw (sub-down a b h) (omega arith)
+  beyond-down h l = rw (sub-down a b h) (omega arith)
 
-  pub ranged-up : b ≤ a → a - b ≤ 22 → (e : ℤ) → e ≡ signed false (a - b) → Reaches (subℕ a b) (Near (toZ w64 (ofZ w64 e)))
+  pub ranged-up : b ≤ a → a - b ≤ 22 → (e : ℤ) → e ≡ signed false (a - b) → Reaches (subℕ a b) (Ranged (toZ w64 (ofZ w64 e)))
   unfolding Reaches signed
   ranged-up h l e q = (rw q (toZ-ofZ (signed-fits false (a - b) (omega arith)) ∙ sym (sub-up a b h)), rw (sub-up a b h) l)
 
-  pub ranged-down : a < b → b - a ≤ 22 → (e : ℤ) → e ≡ signed true (b - a) → Reaches (subℕ a b) (Near (toZ w64 (ofZ w64 e)))
+  pub ranged-down : a < b → b - a ≤ 22 → (e : ℤ) → e ≡ signed true (b - a) → Reaches (subℕ a b) (Ranged (toZ w64 (ofZ w64 e)))
   unfolding Reaches signed
   ranged-down h l e q =
       let n : b - a ≡ suc (b - suc a) = omega arith in
@@ -85,16 +85,16 @@ module _ (z p n : ℕ) (neg : Bool) where
     pub up-sum : neg ≡ false → p < n → Reaches (subℕ (z + (n - p)) 0) r → Reaches (powerOf z p neg n) r
     up-sum e h g = subst (λ t. Reaches t r) (up e (z + (n - p)) 0 (omega arith)) g
 
-  pub down-far : neg ≡ true → z < p → 22 < p - z → Reaches (powerOf z p neg n) Far
-  down-far e h l = subst (λ t. Reaches t Far) (down e z (n + p) (omega arith)) (far-down z (n + p) (omega arith) (omega arith))
+  pub down-beyond : neg ≡ true → z < p → 22 < p - z → Reaches (powerOf z p neg n) Beyond
+  down-beyond e h l = subst (λ t. Reaches t Beyond) (down e z (n + p) (omega arith)) (beyond-down z (n + p) (omega arith) (omega arith))
 
-  pub down-far-2 : neg ≡ true → z < p → 22 < n → Reaches (powerOf z p neg n) Far
-  down-far-2 e h l = subst (λ t. Reaches t Far) (down e z (n + p) (omega arith)) (far-down z (n + p) (omega arith) (omega arith))
+  pub down-beyond-2 : neg ≡ true → z < p → 22 < n → Reaches (powerOf z p neg n) Beyond
+  down-beyond-2 e h l = subst (λ t. Reaches t Beyond) (down e z (n + p) (omega arith)) (beyond-down z (n + p) (omega arith) (omega arith))
 
-  pub up-far : neg ≡ false → p < n → 22 < z → Reaches (powerOf z p neg n) Far
-  up-far e h l = subst (λ t. Reaches t Far) (up e (z + n) p (omega arith)) (far-up (z + n) p (omega arith) (omega arith))
+  pub up-beyond : neg ≡ false → p < n → 22 < z → Reaches (powerOf z p neg n) Beyond
+  up-beyond e h l = subst (λ t. Reaches t Beyond) (up e (z + n) p (omega arith)) (beyond-up (z + n) p (omega arith) (omega arith))
 
-  pub up-far-2 : neg ≡ false → p < n → 22 < n - p → Reaches (powerOf z p neg n) Far
-  up-far-2 e h l = subst (λ t. Reaches t Far) (up e (z + n) p (omega arith)) (far-up (z + n) p (omega arith) (omega arith))
+  pub up-beyond-2 : neg ≡ false → p < n → 22 < n - p → Reaches (powerOf z p neg n) Beyond
+  up-beyond-2 e h l = subst (λ t. Reaches t Beyond) (up e (z + n) p (omega arith)) (beyond-up (z + n) p (omega arith) (omega arith))
 
-pub ruleset powers = (needs, far-up, far-down, ranged-up, ranged-down, down-gap, down-sum, up-gap, up-sum, down-far, down-far-2, up-far, up-far-2)
+pub ruleset powers = (needs, beyond-up, beyond-down, ranged-up, ranged-down, down-gap, down-sum, up-gap, up-sum, down-beyond, down-beyond-2, up-beyond, up-beyond-2)

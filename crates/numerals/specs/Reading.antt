@@ -18,7 +18,7 @@ use Rattle.numerals.specs.declared.Sum.{Sum}
 use Rattle.numerals.specs.declared.Mantissa.{Mantissa}
 use Rattle.numerals.specs.declared.Mantissa.the-variants.{Read, Large}
 use Rattle.numerals.specs.declared.Power.{Power}
-use Rattle.numerals.specs.declared.Power.the-variants.{Near, Far}
+use Rattle.numerals.specs.declared.Power.the-variants.{Ranged, Beyond}
 
 -- the pair that an answer holds, if it holds one
 unfoldable pub pairIn : Numeral → Option Decimal
@@ -103,8 +103,8 @@ Reads text at end Large = 10 ^ 15 ≤ sums nothing (mantissa (slice at end text)
 
 -- an integer is within 22 of 0, and is this one; or is not
 unfoldable pub Reaches : ℤ → Power → Type 0
-Reaches z (Near e) = (e ≡ z) × (natAbs z ≤ 22)
-Reaches z Far = 22 < natAbs z
+Reaches z (Ranged e) = (e ≡ z) × (natAbs z ≤ 22)
+Reaches z Beyond = 22 < natAbs z
 
 -- the power of ten of a pair: zeros that were dropped, an exponent by its sign and magnitude, places after the point
 unfoldable pub powerOf : ℕ → ℕ → Bool → ℕ → ℤ

@@ -77,14 +77,14 @@ whole-at : (z : ℤ) → (k i : ℕ) × (z +ℤ pos k ≡ pos i)
 whole-at (pos n) = (0, n + 0, refl)
 whole-at (negsuc n) = (suc n, 0, +ℤ-invl (pos (suc n)))
 
-pub same-refl : (a : Decimal) → SameValue a a
-same-refl a = let (k, i, h) = whole-at (a .e) in record { k = k; i = i; j = i; left = h; right = h; same = refl }
+pub value-refl : (a : Decimal) → SameValue a a
+value-refl a = let (k, i, h) = whole-at (a .e) in record { k = k; i = i; j = i; left = h; right = h; same = refl }
 
-pub same-sym : {a b : Decimal} → SameValue a b → SameValue b a
-same-sym s = record { k = s .k; i = s .j; j = s .i; left = s .right; right = s .left; same = sym (s .same) }
+pub value-sym : {a b : Decimal} → SameValue a b → SameValue b a
+value-sym s = record { k = s .k; i = s .j; j = s .i; left = s .right; right = s .left; same = sym (s .same) }
 
-pub same-trans : {a b c : Decimal} → SameValue a b → SameValue b c → SameValue a c
-same-trans {a} {b} {c} s t =
+pub value-trans : {a b c : Decimal} → SameValue a b → SameValue b c → SameValue a c
+value-trans {a} {b} {c} s t =
     record {
       k = s .k + t .k;
       i = s .i + t .k;
@@ -197,6 +197,6 @@ pub by-value : (raw raw′ : List ℕ) → (decimal raw ≡ decimal raw′) ↔ 
 by-value raw raw′ =
     let h = has-value raw in
     let h′ = has-value raw′ in (
-      (λ e. same-trans (rw e at h) (same-sym h′)),
-      (λ s. one-pair (decimal raw) (decimal raw′) (canonical raw) (canonical raw′) (same-trans (same-sym h) (same-trans s h′))),
+      (λ e. value-trans (rw e at h) (value-sym h′)),
+      (λ s. one-pair (decimal raw) (decimal raw′) (canonical raw) (canonical raw′) (value-trans (value-sym h) (value-trans s h′))),
     )

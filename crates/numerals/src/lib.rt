@@ -38,8 +38,8 @@ enum Mantissa {
 
 // A power of ten from -22 to 22, or that it lies outside.
 enum Power {
-    Near(i64),
-    Far,
+    Ranged(i64),
+    Beyond,
 }
 
 // Is it a digit?
@@ -343,15 +343,15 @@ fn gap(a: u64, b: u64) -> Power
     if a >= b {
         let up = a - b;
         if up <= 22 {
-            return Power::Near(with_sign(false, up));
+            return Power::Ranged(with_sign(false, up));
         }
-        return Power::Far;
+        return Power::Beyond;
     }
     let down = b - a;
     if down <= 22 {
-        return Power::Near(with_sign(true, down));
+        return Power::Ranged(with_sign(true, down));
     }
-    Power::Far
+    Power::Beyond
 }
 
 // The power of ten of a pair, if it is within 22 of 0: the zeros that were dropped, the exponent, less the places after the point.
@@ -365,10 +365,10 @@ fn ten_power(zeros: u64, places: u64, exponent: Whole) -> Power
         }
         let below = places - zeros;
         if below > 22 {
-            return Power::Far;
+            return Power::Beyond;
         }
         if n > 22 {
-            return Power::Far;
+            return Power::Beyond;
         }
         return gap(0, below + n);
     }
@@ -377,10 +377,10 @@ fn ten_power(zeros: u64, places: u64, exponent: Whole) -> Power
     }
     let above = n - places;
     if zeros > 22 {
-        return Power::Far;
+        return Power::Beyond;
     }
     if above > 22 {
-        return Power::Far;
+        return Power::Beyond;
     }
     gap(zeros + above, 0)
 }
@@ -399,7 +399,7 @@ pub fn pair(text: &[u8], at: usize, end: usize) -> Numeral
     }
     let exponent = integer(text, next, end);
     let power = ten_power(s.zeros, s.places, exponent);
-    let Power::Near(e) = power else {
+    let Power::Ranged(e) = power else {
         return Numeral::Out;
     };
     let sign = is_negative(text, at, end);

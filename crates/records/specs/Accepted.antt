@@ -21,9 +21,10 @@ use Rattle.fields.specs.Fields.{textIn, typeText, countIn}
 use Rattle.schema.specs.Schema.{isGeometryType, geometryType, lod, boundaries, surfaces, semantics, needsLod, geometry, geometries, links, cityObject, cityObjects, threePairs, transform, vertices, cityJson}
 use Rattle.schema.specs.Schema as schema
 use Rattle.model.specs.Code.{All}
+use Rattle.model.specs.Lists.{all-both}
 use Rattle.model.specs.Read.{get}
 use Rattle.model.specs.Size.{size, get-size, elements-within, members-within, find-within, count-within}
-use Rattle.sheets.specs.Clear.{nil-left, nil-right, cond-right, kept, implied, first-of, is-string, text-ok, numeral-ok, clear, has, found, at-some, all-both, each-clear, type-text, counted, objects-members}
+use Rattle.sheets.specs.Clear.{nil-left, nil-right, cond-right, kept, implied, first-of, is-string, text-ok, numeral-ok, clear, has, found, at-some, each-clear, type-text, counted, objects-members}
 use Rattle.sheets.specs.Numbers.{ranged-below, matches-clear, coordinate-clear, vertex-clear}
 use Rattle.sheets.specs.Short.{tree-within}
 use Rattle.sheets.specs.Faultless.{geometry-type-good, lod-clear, boundary-clear, values-clear, geometryChecks, objectChecks, rootChecks, objects-clear}

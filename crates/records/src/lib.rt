@@ -1,4 +1,4 @@
-// Writes the records of an accepted text's sheet from its node table. If they do not fit, a part of them may be written; the cursor tells.
+// Writes the records of an accepted text's sheet from its node table. If they do not fit, a part of them may be written, and the cursor is then past the sheet.
 // Each function takes the cursor at which it is to write and gives the one after.
 use fields::Index;
 use nodes::Found;
@@ -20,9 +20,9 @@ ghost use Rattle.records.specs.Bytes.{eachIn, surfaceBytes, valuesBytes,
 ghost use Rattle.records.specs.Says.{HoldsFound, Quotes, LinksWrote, NumbersWrote, IdentityWrote, ObjectWrote, Placed, ObjectsWrote, Ready, SheetWrote};
 
 // Where the bytes of a string stand in the text, between its quotes.
-pub struct Quote {
-    pub from: usize,
-    pub to: usize,
+struct Quote {
+    from: usize,
+    to: usize,
 }
 
 // Where the bytes of the string that was found stand; no bytes, if no string was found.

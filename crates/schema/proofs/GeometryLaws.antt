@@ -256,7 +256,7 @@ module _ {x t : List ℕ} {k : ℕ} (best vertices code : ℕ) {m : ℕ} (a : Gi
             ∙ ap (least best) (bound-lists vertices code v false (ne-eqb code 0 h));
       }
 
--- every fault of a list is below 18 * 65536: if that is the least of it and them, there are none
+-- every fault of a list is below `noFault`: if that is the least of it and them, there are none
 abbrev None : List ℕ → Type 0
 None fs = least noFault fs ≡ noFault → fs ≡ []
 
@@ -371,17 +371,17 @@ module _ {x t : List ℕ} {k : ℕ} {found : Found} (best count code : ℕ) wher
     over-uncoded h = over-some (λ w v z s. rw h)
 
     module _ {p m : ℕ} {l : Bool} (h : code ≡ 0 → ⊥) (i : p ≡ valuesDepth code) (n : Gives (λ v. least best (ranged count p v)) x t k m) (s : Gives (λ w. isEmpty (shaped (depth code) w)) x t b l) where
-      far : (v : Json) → Sub x t k v → m ≡ least best (ranged count (valuesDepth code) v)
-      far v z = n .is v z ∙ ap (λ (d : ℕ). least best (ranged count d v)) i
+      in-range : (v : Json) → Sub x t k v → m ≡ least best (ranged count (valuesDepth code) v)
+      in-range v z = n .is v z ∙ ap (λ (d : ℕ). least best (ranged count d v)) i
 
       pub over-unshaped : not l ≡ true → GivesOver (λ o w. least best (overBoundary count code o w)) x t found k m
-      over-unshaped u = over-some (λ w v y z. far v z ∙ ap (least best) (over-lists count code w v false h (sym (s .is w y) ∙ not-true l u)))
+      over-unshaped u = over-some (λ w v y z. in-range v z ∙ ap (least best) (over-lists count code w v false h (sym (s .is w y) ∙ not-true l u)))
 
       pub over-shaped : {g r : ℕ} → not l ≡ false → g ≡ valuesDepth code → GivesTwo (λ w u. least m (matches g w u)) x t b k r → GivesOver (λ o w. least best (overBoundary count code o w)) x t found k r
       over-shaped {g} {r} u o f =
           over-some
           (λ w v y z.
-          step best m (ranged count (valuesDepth code) v) (matches (valuesDepth code) w v) (far v z) (f .is w v y z ∙ ap (λ (d : ℕ). least m (matches d w v)) o)
+          step best m (ranged count (valuesDepth code) v) (matches (valuesDepth code) w v) (in-range v z) (f .is w v y z ∙ ap (λ (d : ℕ). least m (matches d w v)) o)
           ∙ (least-comm best (ranged count (valuesDepth code) v) (matches (valuesDepth code) w v) ∙ ap (least best) (over-lists count code w v true h (sym (s .is w y) ∙ not-false l u))))
 
   pub values-is : {m r : ℕ} → Gives (λ v. least best (arrayKind v)) x t k m → GivesOver (λ o w. least m (overBoundary count code o w)) x t found k r → GivesOver (λ o w. least best (values count code o w)) x t found k r

@@ -203,11 +203,11 @@ fn over_boundary(
     if code == 0 {
         return best;
     }
-    let far = shapes::ranged(text, table, v, words::values_depth_of(code), surfaces, best);
+    let range = shapes::ranged(text, table, v, words::values_depth_of(code), surfaces, best);
     if !is_shaped(text, table, b, code, sound) {
-        return far;
+        return range;
     }
-    shapes::matches(text, table, b, v, words::values_depth_of(code), far)
+    shapes::matches(text, table, b, v, words::values_depth_of(code), range)
 }
 
 // The values of a geometry's semantics.

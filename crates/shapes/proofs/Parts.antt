@@ -210,7 +210,7 @@ module _ {x t : List ℕ} {i : ℕ} where
     pub shaped-yes : {b : Bool} {r : ℕ} → (depth ≡ 0 → ⊥) → Gives isArrayValue x t i b → not b ≡ false → Gives (λ v. least best (eachElement (shaped (depth - 1)) v)) x t i r → Gives (λ v. least best (shaped depth v)) x t i r
     shaped-yes h g e p = shaped-deep h (kind-yes best 12 (eachElement (shaped (depth - 1))) g e p)
 
-  -- integers near at that depth
+  -- integers in range at that depth
   module _ (best count depth : ℕ) where
     pub ranged-leaf : {r : ℕ} → depth ≡ 0 → Gives (λ v. least best (ranged count 0 v)) x t i r → Gives (λ v. least best (ranged count depth v)) x t i r
     ranged-leaf e g = rw e g

@@ -23,11 +23,12 @@ unfoldable pub all : List Check → Check
 all [] v = []
 all (c ∷ cs) v = c v ++ all cs v
 
--- a check of the member of that name, if the value is an object that has one
+-- a check of what was found, if something was
 unfoldable pub on : Check → Option Json → List ℕ
 on c option.none = []
 on c (some v) = c v
 
+-- a check of the member of that name, if the value is an object that has one
 unfoldable pub at : String → Check → Check
 unfolding on find
 at name c v = on c (find name v)
@@ -42,11 +43,12 @@ unfoldable pub eachElement : Check → Check
 unfolding forEach elements
 eachElement c v = forEach c (elements v)
 
--- a check of each member's value
+-- the values of members
 unfoldable pub values : List Member → List Json
 values [] = []
 values (m ∷ ms) = m .1 ∷ values ms
 
+-- a check of each member's value
 unfoldable pub eachMember : Check → Check
 unfolding forEach values members
 eachMember c v = forEach c (values (members v))

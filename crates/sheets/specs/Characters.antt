@@ -30,12 +30,12 @@ use Rattle.links.specs.Links.{linkFaults}
 use Rattle.verdict.specs.Verdict.{accepted, faults, verdict}
 use Rattle.verdict.specs.Exact.{accepted-clean}
 use Rattle.model.specs.Code.{All}
+use Rattle.model.specs.Lists.{one-of, all-map, all-both, all-parts, all-of-map}
 use Rattle.model.specs.Model.{Surface, added, Semantics, Object, Model}
 use Rattle.model.specs.Model as model
 use Rattle.model.specs.Read.{orNull, get, surfaceNamed, surfaceOf, semanticsOf, geometryOf, objectOf, modelOf}
 use Rattle.json.specs.Machine.{treeOf}
 use Rattle.sheets.specs.Laid.{modelOfText}
-use Rattle.sheets.specs.Clear.{all-both}
 use Rattle.sheets.specs.Quoted.{InQuotes, chars-end, chars-escaped, text-quoted}
 use Rattle.sheets.specs.Answers.{tree-is}
 
@@ -108,10 +108,6 @@ texts-whole x n e =
     let c = accepted-clean x n e in
     rw (tree-is x (c .value) (c .reads)) (strings-whole (whole-text x (c .whole)) (read-text x (c .value) .0 (c .reads)) (clean-rule5 (c .value) (c .clean)))
 
-one-of : {A : Type 0} (P : A → Type 0) {a : A} {l : List A} → List·Memᴰ a l → All P l → P a
-one-of P (List·Memᴰ·head e) h = rw e (h .0)
-one-of P (List·Memᴰ·tail m) h = one-of P m (h .1)
-
 -- every string and every name of an accepted text stands for whole characters
 pub whole-strings : (x : List ℕ) (n : ℕ) → verdict x ≡ accepted n → (s : Name) → List·Memᴰ s (strings (treeOf x)) → Whole (decode (s .raw))
 whole-strings x n e s m = one-of WholeName m (texts-whole x n e)
@@ -125,16 +121,6 @@ Texts v = All WholeName (strings v)
 -- a member's
 abbrev MemberTexts : Member → Type 0
 MemberTexts m = WholeName (m .0) × Texts (m .1)
-
--- those of two lists
-all-parts : {A : Type 0} (P : A → Type 0) (l m : List A) → All P (l ++ m) → All P l × All P m
-all-parts P [] m h = (tt, h)
-all-parts P (a ∷ l) m h = let (g, k) = all-parts P l m (h .1) in ((h .0, g), k)
-
--- what is read of each
-all-read : {A B : Type 0} (P : A → Type 0) (Q : B → Type 0) (read : A → B) → ((a : A) → P a → Q (read a)) → (l : List A) → All P l → All Q (map read l)
-all-read P Q read one [] h = tt
-all-read P Q read one (a ∷ l) h = (one a (h .0), all-read P Q read one l (h .1))
 
 listed-texts : (vs : Items) → All WholeName (stringsIn vs) → All Texts (listed vs)
 unfolding strings listed
@@ -175,24 +161,24 @@ text-whole (tree.arr p e vs) h = nil
 text-whole (tree.obj p e ms) h = nil
 
 -- a member that is found
-abbrev Found : Option Json → Type 0
-Found option.none = Unit {0}
-Found (some v) = Texts v
+abbrev TextsIn : Option Json → Type 0
+TextsIn option.none = Unit {0}
+TextsIn (some v) = Texts v
 
-found-if : (b : Bool) (v : Json) (o : Option Json) → Texts v → Found o → Found (cond b (some v) o)
+found-if : (b : Bool) (v : Json) (o : Option Json) → Texts v → TextsIn o → TextsIn (cond b (some v) o)
 found-if true v o h k = h
 found-if false v o h k = k
 
-first-texts : (t : List ℕ) (ms : List Member) → All MemberTexts ms → Found (firstNamed t ms)
+first-texts : (t : List ℕ) (ms : List Member) → All MemberTexts ms → TextsIn (firstNamed t ms)
 unfolding firstNamed
 first-texts t [] h = tt
 first-texts t (m ∷ ms) h = found-if (same t (nameOf m)) (m .1) (firstNamed t ms) (h .0 .1) (first-texts t ms (h .1))
 
-find-texts : (n : String) (v : Json) → Texts v → Found (find n v)
+find-texts : (n : String) (v : Json) → Texts v → TextsIn (find n v)
 unfolding find
 find-texts n v h = first-texts _ (members v) (member-texts v h)
 
-null-texts : (o : Option Json) → Found o → Texts (orNull o)
+null-texts : (o : Option Json) → TextsIn o → Texts (orNull o)
 unfolding orNull strings
 null-texts option.none h = tt
 null-texts (some v) h = h
@@ -206,7 +192,7 @@ get-texts n v h = null-texts (find n v) (find-texts n v h)
 -- what is read of the elements of a member
 each-read : {B : Type 0} (Q : B → Type 0) (read : Json → B) → ((v : Json) → Texts v → Q (read v))
     → (n : String) (v : Json) → Texts v → All Q (map read (elements (get n v)))
-each-read Q read one n v h = all-read Texts Q read one (elements (get n v)) (element-texts (get n v) (get-texts n v h))
+each-read Q read one n v h = all-of-map Q read (elements (get n v)) (all-map one (elements (get n v)) (element-texts (get n v) (get-texts n v h)))
 
 surface-if : (b : Bool) (code : ℕ) (t : List ℕ) → Whole t → WholeSurface (cond b (added t) (model.listed code))
 surface-if true code t w = w
@@ -216,7 +202,7 @@ surface-whole : (v : Json) → Texts v → WholeSurface (surfaceOf v)
 unfolding surfaceOf surfaceNamed
 surface-whole v h = surface-if (eqb (getD (textOf (get "type" v)) 0 0) 43) _ _ (text-whole (get "type" v) (get-texts "type" v h))
 
-semantics-whole : (code : ℕ) (o : Option Json) → Found o → WholeSemantics (Option·map (semanticsOf code) o)
+semantics-whole : (code : ℕ) (o : Option Json) → TextsIn o → WholeSemantics (Option·map (semanticsOf code) o)
 unfolding semanticsOf
 semantics-whole code option.none h = tt
 semantics-whole code (some v) h = each-read WholeSurface surfaceOf surface-whole "surfaces" v h
@@ -238,7 +224,7 @@ model-whole : (v : Json) → Texts v → WholeTexts (modelOf v)
 unfolding modelOf
 model-whole v h =
     let o = get "CityObjects" v in
-    all-read MemberTexts WholeObject objectOf object-whole (members o) (member-texts o (get-texts "CityObjects" v h))
+    all-of-map WholeObject objectOf (members o) (all-map object-whole (members o) (member-texts o (get-texts "CityObjects" v h)))
 
 -- the IDs, the links and the added names of the model of an accepted text are whole characters
 pub whole-model : (x : List ℕ) (n : ℕ) → verdict x ≡ accepted n → WholeTexts (modelOfText x)

@@ -14,6 +14,7 @@ use Rattle.shapes.specs.Checks.{Check, unless, all, on, at, forEach, eachElemen
 use Rattle.fields.specs.Fields.{textIn, typeText, countIn, membersIn, objectsOf}
 use Rattle.links.specs.Links.{elementsIn, listedIn}
 use Rattle.model.specs.Code.{All}
+use Rattle.model.specs.Lists.{all-both, all-of-map}
 use Rattle.model.specs.Read.{orNull, get}
 
 -- ---- lists with no element
@@ -115,26 +116,16 @@ at-null c P one z n v e = of (find n v) e
 
 -- ---- elements
 
--- what two facts give, of each element
-pub all-both : {A : Type 0} (P Q R : A → Type 0) → ((a : A) → P a → Q a → R a) → (l : List A) → All P l → All Q l → All R l
-all-both P Q R one [] p q = tt
-all-both P Q R one (a ∷ l) p q = (one a (p .0) (q .0), all-both P Q R one l (p .1) (q .1))
-
 -- a check that finds no fault in a list finds none in each of its values
 pub each-clear : (c : Check) (vs : List Json) → forEach c vs ≡ [] → All (λ v. c v ≡ []) vs
 unfolding forEach
 each-clear c [] e = tt
 each-clear c (v ∷ vs) e = (nil-left (c v) (forEach c vs) e, each-clear c vs (nil-right (c v) (forEach c vs) e))
 
--- what is read of them
-pub all-map : {A : Type 0} (read : Json → A) (P : A → Type 0) (vs : List Json) → All (λ v. P (read v)) vs → All P (map read vs)
-all-map read P [] a = tt
-all-map read P (v ∷ vs) a = (a .0, all-map read P vs (a .1))
-
 -- each of some values in which two checks find no fault reads as good
 pub both-good : {A : Type 0} (c d : Check) (read : Json → A) (P : A → Type 0) → ((v : Json) → c v ≡ [] → d v ≡ [] → P (read v))
     → (vs : List Json) → forEach c vs ≡ [] → forEach d vs ≡ [] → All P (map read vs)
-both-good c d read P one vs e f = all-map read P vs (all-both (λ v. c v ≡ []) (λ v. d v ≡ []) (λ v. P (read v)) one vs (each-clear c vs e) (each-clear d vs f))
+both-good c d read P one vs e f = all-of-map P read vs (all-both (λ v. c v ≡ []) (λ v. d v ≡ []) (λ v. P (read v)) one vs (each-clear c vs e) (each-clear d vs f))
 
 -- the same of one check
 pub each-good : {A : Type 0} (c : Check) (read : Json → A) (P : A → Type 0) → ((v : Json) → c v ≡ [] → P (read v)) → (vs : List Json) → forEach c vs ≡ [] → All P (map read vs)

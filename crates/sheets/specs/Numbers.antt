@@ -20,9 +20,10 @@ use Rattle.shapes.specs.Checks.{unless, forEach, eachElement, numberKind, array
 use Rattle.shapes.specs.Shapes.{isIntegerValue, allIntegers, threeEntries, pairRange, isTriple, coordinate, vertex, shaped, ranged, forBoth, matches}
 use Rattle.schema.specs.Schema.{threePairs}
 use Rattle.model.specs.Code.{All}
+use Rattle.model.specs.Lists.{all-both, all-of-map}
 use Rattle.model.specs.Good.{AllThree, Leaves, GoodDecimal, GoodVertex, GoodValue, Both, Shaped}
 use Rattle.model.specs.Read.{maybeDecimal, zeroIfNone, decimalOf, integerOf, natural, indexOf, valueOf, threeOf, nestOf}
-use Rattle.sheets.specs.Clear.{nil-left, nil-right, cond-left, kept, numeral-ok, clear, all-both, all-map, each-clear, both-good, each-good}
+use Rattle.sheets.specs.Clear.{nil-left, nil-right, cond-left, kept, numeral-ok, clear, each-clear, both-good, each-good}
 
 -- ---- integers
 
@@ -194,4 +195,4 @@ unfolding integerOf decimalOf maybeDecimal zeroIfNone wholeOf
 vertex-good v e =
     let (l, i, c) = vertex-clear v e in
     three-good integerOf (λ z. mag z < 2 ^ 31) (omega arith) v
-    (all-map integerOf (λ z. mag z < 2 ^ 31) (elements v) (all-both (λ w. isIntegerValue w ≡ true) (λ w. coordinate w ≡ []) (λ w. mag (integerOf w) < 2 ^ 31) coordinate-good (elements v) i (each-clear coordinate (elements v) c)))
+    (all-of-map (λ z. mag z < 2 ^ 31) integerOf (elements v) (all-both (λ w. isIntegerValue w ≡ true) (λ w. coordinate w ≡ []) (λ w. mag (integerOf w) < 2 ^ 31) coordinate-good (elements v) i (each-clear coordinate (elements v) c)))

@@ -22,7 +22,7 @@ use Rattle.json.specs.Grammar as g
 use Rattle.grammar.specs.Induction.{Below, by-levels}
 use Rattle.everywhere.specs.Everywhere.{strings, stringsIn, stringsOf}
 use Rattle.model.specs.Code.{All}
-use Rattle.model.specs.Weigh.{all-append}
+use Rattle.model.specs.Lists.{all-append}
 use Rattle.sheets.specs.Clear.{implied}
 
 -- a string or a name stands in the text x between two quotes

@@ -1,4 +1,4 @@
--- What is proved of lay's answers and of the lent sheet, for texts and rooms of any sizes (document 01, demand 3 and "Town and sheet").
+-- What is proved of lay's answers and of the lent sheet, for texts and rooms of any sizes (document 01, demands 2 and 3 and "Town and sheet").
 use Prim.Native.Nat.{ℕ, _-_, _^_, _≤_, _<_}
 use native.Mathlib.Omega.{arith}
 use mathlib.Core.Path.{_≡_, refl, sym, ap, _∙_}
@@ -39,12 +39,12 @@ unfolding modelOfText modelOf
 count x n e = object-count x n e ∙ ap length (objects-members (treeOf x)) ∙ sym (length-map (members (get "CityObjects" (treeOf x))) objectOf)
 
 -- every string and every name of an accepted text stands for whole characters in UTF-8
-pub decoded : (x : List ℕ) (n : ℕ) → verdict x ≡ accepted n → (s : Name) → List·Memᴰ s (strings (treeOf x)) → Whole (decode (s .raw))
-decoded = whole-strings
+pub strings-are-whole : (x : List ℕ) (n : ℕ) → verdict x ≡ accepted n → (s : Name) → List·Memᴰ s (strings (treeOf x)) → Whole (decode (s .raw))
+strings-are-whole = whole-strings
 
 -- so the IDs, the links and the added names of surfaces in its model are whole characters
-pub texts : (x : List ℕ) (n : ℕ) → verdict x ≡ accepted n → WholeTexts (modelOfText x)
-texts = whole-model
+pub texts-are-whole : (x : List ℕ) (n : ℕ) → verdict x ≡ accepted n → WholeTexts (modelOfText x)
+texts-are-whole = whole-model
 
 -- an acceptance gives the sheet's length, which is no more than the room and below 2^32, and the object count
 pub sizes : (x : List ℕ) (r l n : ℕ) → answer x r ≡ laid l n → (l ≡ length (sheetOfText x)) × (l ≤ r) × (l < 2 ^ 32) × (n ≡ length (modelOfText x .objects))

@@ -11,7 +11,7 @@ use lib.Dec.{eqb}
 use borrow.Author.Tests.{lt-ltb, le-ltb, eq-eqb, ne-eqb}
 use Rattle.utf8.specs.Utf8.{same}
 use Rattle.strings.specs.Spans.{Span, decodeAt, hasByte, beginApart}
-use Rattle.strings.specs.Parts.{Spelled, Agree}
+use Rattle.strings.specs.Parts.{Spelled, LooksSame}
 use Rattle.strings.specs.Laws.{onward, at-end, has-append}
 use Rattle.strings.proofs.Loops.{both-end, plain-word-wrong, plain-word-more, plain-both-more}
 
@@ -117,8 +117,8 @@ module _ (x : List ℕ) (at end : ℕ) (w : List ℕ) (s : Span x at end) where
     spelled-same r a z = let e : at + length w ≡ end = omega (arith, s .low) in rw (z, e) at a
 
 -- two strings of one length, byte by byte
-pub agree-none : (x : List ℕ) (at end at2 : ℕ) → Agree x at end at2 false
-unfolding Agree
+pub agree-none : (x : List ℕ) (at end at2 : ℕ) → LooksSame x at end at2 false
+unfolding LooksSame
 agree-none x at end at2 = tt
 
 module _ (x : List ℕ) (i end j at at2 : ℕ) (s : Span x i end) (t : Span x j (at2 + (end - at))) (e : i + at2 ≡ j + at) where
@@ -138,16 +138,16 @@ module _ (x : List ℕ) (i end j at at2 : ℕ) (s : Span x i end) (t : Span x j 
     pub level-more : (v u : List ℕ) → same v u ≡ same (decodeAt x i end) (decodeAt x j (at2 + (end - at))) → getD x i 0 ≡ getD x j 0 → (getD x i 0 ≡ 92 → ⊥) → same v u ≡ same (decodeAt x (i + 1) end) (decodeAt x (j + 1) (at2 + (end - at)))
     level-more v u q f n = plain-both-more s a n t level (λ h. n (f ∙ h)) v u q f
 
-  pub agree-all : Span x at end → end ≤ i → same (decodeAt x at end) (decodeAt x at2 (at2 + (end - at))) ≡ same (decodeAt x i end) (decodeAt x j (at2 + (end - at))) → Agree x at end at2 true
-  unfolding Agree
+  pub agree-all : Span x at end → end ≤ i → same (decodeAt x at end) (decodeAt x at2 (at2 + (end - at))) ≡ same (decodeAt x i end) (decodeAt x j (at2 + (end - at))) → LooksSame x at end at2 true
+  unfolding LooksSame
   agree-all w l q = both-end _ _ _ _ q (at-end s l) (at-end t (omega (arith, w .low)))
 
 module _ (x : List ℕ) (at end at2 end2 : ℕ) (t : Span x at2 end2) (q : end - at ≡ end2 - at2) where
   pub agree-span : Span x at2 (at2 + (end - at))
   agree-span = record { low = omega arith; high = omega (arith, t .low, t .high) }
 
-  pub agree-same : (r : Bool) → Agree x at end at2 r → r ≡ true → true ≡ same (decodeAt x at end) (decodeAt x at2 end2)
-  unfolding Agree
+  pub agree-same : (r : Bool) → LooksSame x at end at2 r → r ≡ true → true ≡ same (decodeAt x at end) (decodeAt x at2 end2)
+  unfolding LooksSame
   agree-same r a z = let w : at2 + (end - at) ≡ end2 = omega (arith, t .low) in rw (z, w) at a
 
 -- the first bytes of two strings

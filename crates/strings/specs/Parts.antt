@@ -71,7 +71,7 @@ Escapes x at end Cut = IsCut x at end
 Escapes x at end (Short b) = IsShort x at end b
 Escapes x at end (Long u to) = IsLong x at end u to
 
--- the bytes of a character: the first is handed out, the others are le in d, which goes on at at
+-- the bytes of a character: the first is handed out, the others are still to come from d, which goes on at the offset at
 pub record IsSpread (u at end b : ℕ) (d : Cursor) : Type 0 where
   pub bytes : encode u ≡ b ∷ le (d .left) (d .word)
   pub few : d .left ≤ 3
@@ -89,6 +89,6 @@ Spelled x at w true = true ≡ same w (decodeAt x at (at + length w))
 Spelled x at w false = Unit
 
 -- a look at two strings of one length tells that they stand for the same bytes, or nothing
-unfoldable pub Agree : List ℕ → ℕ → ℕ → ℕ → Bool → Type 0
-Agree x at end at2 true = true ≡ same (decodeAt x at end) (decodeAt x at2 (at2 + (end - at)))
-Agree x at end at2 false = Unit
+unfoldable pub LooksSame : List ℕ → ℕ → ℕ → ℕ → Bool → Type 0
+LooksSame x at end at2 true = true ≡ same (decodeAt x at end) (decodeAt x at2 (at2 + (end - at)))
+LooksSame x at end at2 false = Unit

@@ -6,7 +6,7 @@ ghost use lib.Seq.{slice};
 ghost use Rattle.utf8.specs.Utf8.{encode, same};
 ghost use Rattle.strings.specs.Strings.{hexValue, escaped, paired};
 ghost use Rattle.strings.specs.Spans.{Span, decodeAt, unpairedAt, ahead, away, Steps, Copied, firstOf, hasByte, beginApart};
-ghost use Rattle.strings.specs.Parts.{unitAt, Halves, Escapes, Spreads, Spelled, Agree};
+ghost use Rattle.strings.specs.Parts.{unitAt, Halves, Escapes, Spreads, Spelled, LooksSame};
 
 // A place in a string that is being decoded. `word` holds the bytes of a character that are still to be handed out, the next one in its lowest eight bits, and `left` how many they are.
 pub struct Cursor {
@@ -409,7 +409,7 @@ fn same_ahead(text: &[u8], one: Cursor, other: Cursor) -> bool
 // Are two stretches of the text of one length alike, with no backslash?
 fn same_plain(text: &[u8], at: usize, end: usize, at2: usize) -> bool
     requires { ⌜ (Span (now text) at end) × (Span (now text) at2 (at2 + (end - at))) ⌝ }
-    ensures { λ r. ⌜ Agree (now (text .entry)) at end at2 r ⌝ }
+    ensures { λ r. ⌜ LooksSame (now (text .entry)) at end at2 r ⌝ }
 {
     let mut i = at;
     let mut j = at2;

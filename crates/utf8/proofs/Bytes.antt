@@ -11,6 +11,7 @@ use Rattle.utf8.specs.Utf8.{isCharacter, encode, number, written}
 use Rattle.utf8.specs.Says.{isBetween}
 use Rattle.utf8.specs.Laws.{clash, below-or-not, both-left, both-right, never, unless, Form, form, top, encode-one, encode-two, encode-three, encode-four, written-encode, written-character, written-bytes}
 use Rattle.utf8.specs.Laws.Form.{one, two, three, four}
+use Rattle.utf8.specs.Splits.{character-below, character-above}
 
 -- two Booleans that are true together are equal
 agree : (x y : Bool) → (x ≡ true → y ≡ true) → (y ≡ true → x ≡ true) → x ≡ y
@@ -27,14 +28,6 @@ no-surrogate n h = by _ _ refl refl (both-right (leb n 0x10FFFF) _ h)
     by true true e f g = absurd (never refl (sym g))
     by true false e f g = inr (leb-false n 0xDFFF f)
     by false q e f g = inl (leb-false 0xD800 n e)
-
-character-low : (n : ℕ) → n < 0xD800 → isCharacter n ≡ true
-unfolding isCharacter
-character-low n h = rw (le-leb n 0x10FFFF (omega arith), lt-leb 0xD800 n h)
-
-character-high : (n : ℕ) → 0xDFFF < n → n ≤ 0x10FFFF → isCharacter n ≡ true
-unfolding isCharacter
-character-high n l h = rw (le-leb n 0x10FFFF h, le-leb 0xD800 n (omega arith), lt-leb n 0xDFFF l)
 
 -- bytes are a character's
 made : (n : ℕ) {x : List ℕ} → isCharacter n ≡ true → encode n ≡ x → written x ≡ true
@@ -137,7 +130,7 @@ tail-not c t n e l h = never (e ∙ rw (le-leb 128 c l, le-leb c 191 h)) (not-tr
 
 -- one byte
 pub one-is : (a : ℕ) → a < 128 → written (a ∷ []) ≡ true
-one-is a h = made a (character-low a (omega arith)) (encode-one a h)
+one-is a h = made a (character-below a (omega arith)) (encode-one a h)
 
 -- two bytes
 pub two-low : (a b : ℕ) → a < 194 → false ≡ written (a ∷ b ∷ [])
@@ -146,7 +139,7 @@ two-low a b h = sym (unless _ (λ w. omega (arith, from-two a b w)))
 pub two-is : (a b : ℕ) (r : Bool) → 194 ≤ a → a < 224 → r ≡ isBetween 128 191 b → r ≡ written (a ∷ b ∷ [])
 two-is a b r l h e =
     by-range 128 191 b e
-    (λ lo hi. made ((a - 192) * 64 + (b - 128)) (character-low _ (omega arith)) (of-two (two-bits a b (a - 192) (b - 128) (omega arith) (omega arith) (omega arith) (omega arith) (omega arith))))
+    (λ lo hi. made ((a - 192) * 64 + (b - 128)) (character-below _ (omega arith)) (of-two (two-bits a b (a - 192) (b - 128) (omega arith) (omega arith) (omega arith) (omega arith) (omega arith))))
     (λ w. let k = from-two a b w in omega arith)
 
 -- three bytes
@@ -157,7 +150,7 @@ module _ (a b c : ℕ) (t r : Bool) (n : not t ≡ false) (e : t ≡ isBetween 1
   three-to : 224 ≤ a → a < 240 → 128 ≤ b → b ≤ 191 → 32 ≤ (a - 224) * 64 + (b - 128) → ((a - 224) * 64 + (b - 128) < 864) ⊎ (896 ≤ (a - 224) * 64 + (b - 128)) → written (a ∷ b ∷ c ∷ []) ≡ true
   three-to l h lb hb m s =
       let k = tail-is c t n e in
-      made (((a - 224) * 64 + (b - 128)) * 64 + (c - 128)) (⊎-elim (λ p. character-low _ (omega arith)) (λ p. character-high _ (omega arith) (omega arith)) s)
+      made (((a - 224) * 64 + (b - 128)) * 64 + (c - 128)) (⊎-elim (λ p. character-below _ (omega arith)) (λ p. character-above _ (omega arith) (omega arith)) s)
       (of-three (three-bits a b c (a - 224) (b - 128) (c - 128) (omega arith) (omega arith) (omega arith) (omega arith) (omega arith) (omega arith) m))
 
   pub three-e0 : a ≡ 224 → r ≡ isBetween 160 191 b → r ≡ written (a ∷ b ∷ c ∷ [])
@@ -193,7 +186,7 @@ module _ (a b c d : ℕ) (t u r : Bool) (n : not t ≡ false) (e : t ≡ isBetwe
   four-to l lb hb lx hx =
       let k = tail-is c t n e in
       let k′ = tail-is d u m f in
-      made ((((a - 240) * 64 + (b - 128)) * 64 + (c - 128)) * 64 + (d - 128)) (character-high _ (omega arith) (omega arith))
+      made ((((a - 240) * 64 + (b - 128)) * 64 + (c - 128)) * 64 + (d - 128)) (character-above _ (omega arith) (omega arith))
       (of-four (four-bits a b c d (a - 240) (b - 128) (c - 128) (d - 128) (omega arith) (omega arith) (omega arith) (omega arith) (omega arith) (omega arith) (omega arith) lx))
 
   pub four-f0 : a ≡ 240 → r ≡ isBetween 144 191 b → r ≡ written (a ∷ b ∷ c ∷ d ∷ [])

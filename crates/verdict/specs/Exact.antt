@@ -18,6 +18,7 @@ use Rattle.grammar.specs.Reaches.{shorter, begun}
 use Rattle.nodes.specs.Faults.{fault, ruleOf, placeIn, least, noFault}
 use Rattle.fields.specs.Fields.{objectsOf}
 use Rattle.model.specs.Code.{All}
+use Rattle.model.specs.Lists.{one-of}
 use Rattle.verdict.specs.Verdict.{Verdict, accepted, refused, faults, given, judged, parsed, verdict}
 use Rattle.verdict.specs.Places.{Small, Placed, faults-small}
 
@@ -88,7 +89,7 @@ stopped x p e = let (h, b, f) = stops x p e in record { inside = h; begins = b; 
     by f m k c (yes d) = absurd (f (omega arith) (shorter x (p + 1) m (omega arith) c))
     by f m k c (no d) = omega arith
 
--- there is one
+-- there is only one
 one-longest : {x : List ℕ} {n k : ℕ} → Longest x n → Longest x k → n ≡ k
 one-longest {x} {n} {k} a b = omega (arith, a .longest k (b .inside) (b .begins), b .longest n (a .inside) (a .begins))
 
@@ -110,14 +111,10 @@ bad-breaks x p e = by (stopped x p (inl e)) (decLt p (length x))
 pub in-text : (x : List ℕ) (v : Json) → length x ≤ 65535 → read x ≡ reads v → Placed v
 in-text x v h e = let (p, q, s, k) = ordered 32 x v (read-text x v .0 e) in record { from = p; to = q; spans = s; before = omega arith }
 
-one-of : {f : ℕ} {fs : List ℕ} → List·Memᴰ f fs → All Small fs → Small f
-one-of (List·Memᴰ·head e) a = rw e (a .0)
-one-of (List·Memᴰ·tail m) a = one-of m (a .1)
-
 -- a fault in such a tree
 module _ (x : List ℕ) (v : Json) (s q : ℕ) (h : length x ≤ 65535) (d : Text 32 x v) (k : q < 65536) (m : List·Memᴰ (fault s q) (faults v)) where
   small : Small (fault s q)
-  small = one-of m (faults-small v (in-text x v h (read-text x v .1 d)))
+  small = one-of Small m (faults-small v (in-text x v h (read-text x v .1 d)))
 
   five : 5 ≤ s
   unfolding fault
@@ -288,7 +285,7 @@ one-least {r = r} {p} {s} {q} a b = by (a .least s q (b .broken)) (b .least r p 
     by (inr h) (inl k) = absurd (omega arith)
     by (inr h) (inr k) = omega arith
 
--- and is refused by a rule at a place exactly if that rule is the lowest broken one, and that place its earliest
+-- a text is refused by a rule at a place exactly if that rule is the lowest broken one, and that place its earliest
 pub refused-exactly : (x : List ℕ) (r p : ℕ) → (verdict x ≡ refused r p) ↔ Least x r p
 refused-exactly x r p = (refused-least x r p, (λ a. of (verdict x) refl a))
   where

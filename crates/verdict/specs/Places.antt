@@ -28,6 +28,7 @@ use Rattle.schema.specs.Schema.{isObjectType, isGeometryType, isSurfaceType, on
 use Rattle.schema.specs.Schema as schema
 use Rattle.links.specs.Links.{elementsIn, listedIn, idsAmong, idsIn, link, linksFrom, parentLink, linksOf, linksOfEach, linkFaults}
 use Rattle.model.specs.Code.{All}
+use Rattle.model.specs.Lists.{all-map, all-append}
 use Rattle.verdict.specs.Verdict.{faults}
 
 -- a fault of a rule from lo to before hi
@@ -139,10 +140,6 @@ find-placed k {v} p = named-placed (ascii k) (members v) (members-placed p)
 
 -- ---- checks that find faults of some rules only
 
-both : (lo hi : ℕ) (xs ys : List ℕ) → All (Among lo hi) xs → All (Among lo hi) ys → All (Among lo hi) (xs ++ ys)
-both lo hi [] ys a b = b
-both lo hi (x ∷ xs) ys a b = (a .0, both lo hi xs ys (a .1) b)
-
 abbrev Safe : ℕ → ℕ → Check → Type 0
 Safe lo hi c = (v : Json) → Placed v → All (Among lo hi) (c v)
 
@@ -179,12 +176,12 @@ SafeAll lo hi (c ∷ cs) = Safe lo hi c × SafeAll lo hi cs
 all-safe : (lo hi : ℕ) (cs : List Check) → SafeAll lo hi cs → Safe lo hi (all cs)
 unfolding all
 all-safe lo hi [] s v p = tt
-all-safe lo hi (c ∷ cs) s v p = both lo hi (c v) (all cs v) (s .0 v p) (all-safe lo hi cs (s .1) v p)
+all-safe lo hi (c ∷ cs) s v p = all-append (Among lo hi) (c v) (all cs v) (s .0 v p) (all-safe lo hi cs (s .1) v p)
 
 for-safe : (lo hi : ℕ) (c : Check) → Safe lo hi c → (vs : List Json) → All (Placed) vs → All (Among lo hi) (forEach c vs)
 unfolding forEach
 for-safe lo hi c s [] a = tt
-for-safe lo hi c s (v ∷ vs) a = both lo hi (c v) (forEach c vs) (s v (a .0)) (for-safe lo hi c s vs (a .1))
+for-safe lo hi c s (v ∷ vs) a = all-append (Among lo hi) (c v) (forEach c vs) (s v (a .0)) (for-safe lo hi c s vs (a .1))
 
 each-safe : (lo hi : ℕ) (c : Check) → Safe lo hi c → Safe lo hi (eachElement c)
 unfolding eachElement
@@ -204,7 +201,7 @@ unfolding needs
 needs-safe lo hi h [] v p = tt
 needs-safe lo hi h (n ∷ ns) v p =
     let kept = not (isObjectValue v) || isSome (find n v) in
-    both lo hi (unless kept 8 v) (needs ns v) (unless-safe lo hi kept 8 h v p) (needs-safe lo hi h ns v p)
+    all-append (Among lo hi) (unless kept 8 v) (needs ns v) (unless-safe lo hi kept 8 h v p) (needs-safe lo hi h ns v p)
 
 text-safe : (lo hi : ℕ) (r : ℕ) (ok : List ℕ → Bool) → Rule lo hi r → Safe lo hi (text r ok)
 unfolding text
@@ -255,7 +252,7 @@ vertex-safe v p = cond-safe 7 15 (isTriple v) (eachElement coordinate v) (unless
 shaped-safe : (d : ℕ) → Safe 7 15 (shaped d)
 unfolding shaped
 shaped-safe zero v p = unless-safe 7 15 (isIntegerValue v) 12 tt v p
-shaped-safe (suc d) v p = both 7 15 (unless (isArrayValue v) 12 v) (forEach (shaped d) (elements v)) (unless-safe 7 15 (isArrayValue v) 12 tt v p) (for-safe 7 15 (shaped d) (shaped-safe d) (elements v) (elements-placed p))
+shaped-safe (suc d) v p = all-append (Among 7 15) (unless (isArrayValue v) 12 v) (forEach (shaped d) (elements v)) (unless-safe 7 15 (isArrayValue v) 12 tt v p) (for-safe 7 15 (shaped d) (shaped-safe d) (elements v) (elements-placed p))
 
 ranged-safe : (n d : ℕ) → Safe 7 15 (ranged n d)
 unfolding ranged
@@ -266,14 +263,14 @@ two-safe : (c : Json → Check) → ((b : Json) → Safe 7 15 (c b)) → (bs vs 
 unfolding forBoth
 two-safe c s [] vs a = tt
 two-safe c s (b ∷ bs) [] a = tt
-two-safe c s (b ∷ bs) (v ∷ vs) a = both 7 15 (c b v) (forBoth c bs vs) (s b v (a .0)) (two-safe c s bs vs (a .1))
+two-safe c s (b ∷ bs) (v ∷ vs) a = all-append (Among 7 15) (c b v) (forBoth c bs vs) (s b v (a .0)) (two-safe c s bs vs (a .1))
 
 matches-safe : (d : ℕ) (b : Json) → Safe 7 15 (matches d b)
 unfolding matches
 matches-safe zero b v p = unless-safe 7 15 (isIntegerValue v || isNullValue v) 12 tt v p
 matches-safe (suc d) b v p =
     let alike = isArrayValue v && eqb (length (elements b)) (length (elements v)) in
-    both 7 15 (unless alike 12 v) (cond alike (forBoth (matches d) (elements b) (elements v)) []) (unless-safe 7 15 alike 12 tt v p)
+    all-append (Among 7 15) (unless alike 12 v) (cond alike (forBoth (matches d) (elements b) (elements v)) []) (unless-safe 7 15 alike 12 tt v p)
     (cond-safe 7 15 alike (forBoth (matches d) (elements b) (elements v)) [] (two-safe (matches d) (matches-safe d) (elements b) (elements v) (elements-placed p)) tt)
 
 -- ---- rules 7 to 14
@@ -306,7 +303,7 @@ boundary-safe : (n code : ℕ) → Safe 7 15 (boundary n code)
 unfolding boundary
 boundary-safe n code v p =
     cond-safe 7 15 (eqb code 0) [] (shaped (depth code) v ++ ranged n (depth code) v) tt
-    (both 7 15 (shaped (depth code) v) (ranged n (depth code) v) (shaped-safe (depth code) v p) (ranged-safe n (depth code) v p))
+    (all-append (Among 7 15) (shaped (depth code) v) (ranged n (depth code) v) (shaped-safe (depth code) v p) (ranged-safe n (depth code) v p))
 
 boundaries-safe : (n code : ℕ) → Safe 7 15 (boundaries n code)
 unfolding boundaries
@@ -329,7 +326,7 @@ over-safe count code (some b) v p =
     let first = cond (isEmpty (shaped (depth code) b)) (matches (valuesDepth code) b v) [] in
     let second = ranged count (valuesDepth code) v in
     cond-safe 7 15 (eqb code 0) [] (first ++ second) tt
-    (both 7 15 first second (cond-safe 7 15 (isEmpty (shaped (depth code) b)) (matches (valuesDepth code) b v) [] (matches-safe (valuesDepth code) b v p) tt) (ranged-safe count (valuesDepth code) v p))
+    (all-append (Among 7 15) first second (cond-safe 7 15 (isEmpty (shaped (depth code) b)) (matches (valuesDepth code) b v) [] (matches-safe (valuesDepth code) b v p) tt) (ranged-safe count (valuesDepth code) v p))
 
 values-safe : (count code : ℕ) (b : Option Json) → Safe 7 15 (schema.values count code b)
 unfolding schema.values
@@ -457,14 +454,14 @@ link-safe objects back id excused earlier s p =
     let other = firstNamed (textOf s) objects in
     let known = isSome other && not (among earlier (textOf s)) in
     let answered = excused || among (idsIn back other) id in
-    both 15 18 (unless known 15 s) (unless answered 17 s) (unless-safe 15 18 known 15 tt s p) (unless-safe 15 18 answered 17 tt s p)
+    all-append (Among 15 18) (unless known 15 s) (unless answered 17 s) (unless-safe 15 18 known 15 tt s p) (unless-safe 15 18 answered 17 tt s p)
 
 links-small : (objects : List Member) (back : String) (id : List ℕ) (excused : Bool) (earlier : List (List ℕ)) (ss : List Json) → All Placed ss → All (Among 15 18) (linksFrom objects back id excused earlier ss)
 unfolding linksFrom
 links-small objects back id excused earlier [] a = tt
 links-small objects back id excused earlier (s ∷ ss) a =
     let later = idsAmong (s ∷ []) ++ earlier in
-    both 15 18 (cond (isStringValue s) (link objects back id excused earlier s) []) (linksFrom objects back id excused later ss)
+    all-append (Among 15 18) (cond (isStringValue s) (link objects back id excused earlier s) []) (linksFrom objects back id excused later ss)
     (cond-safe 15 18 (isStringValue s) (link objects back id excused earlier s) [] (link-safe objects back id excused earlier s (a .0)) tt)
     (links-small objects back id excused later ss (a .1))
 
@@ -486,8 +483,8 @@ object-links-small objects m p =
     let group = is "CityObjectGroup" (typeText (m .1)) in
     let a = linksFrom objects "parents" (nameOf m) group [] (listedIn "children" (m .1)) in
     let b = linksFrom objects "children" (nameOf m) false [] (listedIn "parents" (m .1)) in
-    both 15 18 (a ++ b) (parentLink (m .1))
-    (both 15 18 a b
+    all-append (Among 15 18) (a ++ b) (parentLink (m .1))
+    (all-append (Among 15 18) a b
     (links-small objects "parents" (nameOf m) group [] (listedIn "children" (m .1)) (listed-placed "children" (p .value)))
     (links-small objects "children" (nameOf m) false [] (listedIn "parents" (m .1)) (listed-placed "parents" (p .value))))
     (parent-safe (m .1) (p .value))
@@ -495,7 +492,7 @@ object-links-small objects m p =
 all-links-small : (objects ms : List Member) → All PlacedMember ms → All (Among 15 18) (linksOfEach objects ms)
 unfolding linksOfEach
 all-links-small objects [] a = tt
-all-links-small objects (m ∷ ms) a = both 15 18 (linksOf objects m) (linksOfEach objects ms) (object-links-small objects m (a .0)) (all-links-small objects ms (a .1))
+all-links-small objects (m ∷ ms) a = all-append (Among 15 18) (linksOf objects m) (linksOfEach objects ms) (object-links-small objects m (a .0)) (all-links-small objects ms (a .1))
 
 pub links-safe : Safe 15 18 linkFaults
 unfolding linkFaults objectsOf membersIn PlacedIn
@@ -510,10 +507,6 @@ links-safe v p = all-links-small (objectsOf v) (objectsOf v) (of (find "CityObje
 -- a place of rule 5 or 6
 abbrev Low : ℕ → Type 0
 Low p = p < 65536
-
-low-both : (xs ys : List ℕ) → All Low xs → All Low ys → All Low (xs ++ ys)
-low-both [] ys a b = b
-low-both (x ∷ xs) ys a b = (a .0, low-both xs ys (a .1) b)
 
 low-cond : (b : Bool) (p : ℕ) → Low p → All Low (cond b (p ∷ []) [])
 low-cond true p h = (h, tt)
@@ -532,10 +525,6 @@ all-of (p ∷ ps) f = (f p (List·Memᴰ·head refl), all-of ps (λ q m. f q (Li
 abbrev PlacedName : Name → Type 0
 PlacedName k = k .place + (2 + length (k .raw)) ≤ 65536
 
-names-both : (xs ys : List Name) → All PlacedName xs → All PlacedName ys → All PlacedName (xs ++ ys)
-names-both [] ys a b = b
-names-both (x ∷ xs) ys a b = (a .0, names-both xs ys (a .1) b)
-
 mutual
   unfolding strings
 
@@ -549,20 +538,20 @@ mutual
 
   strings-row : {vs : Items} {a b : ℕ} → Row vs a b → b ≤ 65536 → All PlacedName (stringsIn vs)
   strings-row (order.end h) k = tt
-  strings-row (order.next {v = v} {vs = vs} h s r) k = names-both (strings v) (stringsIn vs) (strings-placed s (omega (arith, row-le r))) (strings-row r k)
+  strings-row (order.next {v = v} {vs = vs} h s r) k = all-append PlacedName (strings v) (stringsIn vs) (strings-placed s (omega (arith, row-le r))) (strings-row r k)
 
   strings-rows : {ms : Members} {a b : ℕ} → Rows ms a b → b ≤ 65536 → All PlacedName (stringsOf ms)
   strings-rows (order.last h) k = tt
   strings-rows (order.field {v = v} {ms = ms} h i l s r) k =
       let q = rows-le r in
       let j = spans-lt s in
-      (omega arith, names-both (strings v) (stringsOf ms) (strings-placed s (omega arith)) (strings-rows r k))
+      (omega arith, all-append PlacedName (strings v) (stringsOf ms) (strings-placed s (omega arith)) (strings-rows r k))
 
 unpaired-low : (ss : List Name) → All PlacedName ss → All Low (unpairedIn ss)
 unfolding unpairedIn
 unpaired-low [] a = tt
 unpaired-low (s ∷ ss) a =
-    low-both (unpairedFrom (s .place + 1) (s .raw)) (unpairedIn ss)
+    all-append Low (unpairedFrom (s .place + 1) (s .raw)) (unpairedIn ss)
     (all-of (unpairedFrom (s .place + 1) (s .raw)) (λ q m. omega (arith, unpaired-within (s .place + 1) (s .raw) q m .1, a .0)))
     (unpaired-low ss (a .1))
 
@@ -576,7 +565,7 @@ repeated-low earlier (order.last h) k = tt
 repeated-low earlier (order.field {k = n} {ms = ms} h i l s r) k =
     let q = rows-le r in
     let j = spans-lt s in
-    low-both (cond (among earlier (decode (n .raw))) (n .place ∷ []) []) (repeated (decode (n .raw) ∷ earlier) ms)
+    all-append Low (cond (among earlier (decode (n .raw))) (n .place ∷ []) []) (repeated (decode (n .raw) ∷ earlier) ms)
     (low-cond (among earlier (decode (n .raw))) (n .place) (omega arith)) (repeated-low (decode (n .raw) ∷ earlier) r k)
 
 mutual
@@ -588,23 +577,22 @@ mutual
   rule6-spans (order.num h) k = tt
   rule6-spans (order.str h) k = tt
   rule6-spans (order.arr r h) k = rule6-row r (omega arith)
-  rule6-spans (order.obj {ms = ms} r h) k = low-both (repeated [] ms) (rule6Of ms) (repeated-low [] r (omega arith)) (rule6-rows r (omega arith))
+  rule6-spans (order.obj {ms = ms} r h) k = all-append Low (repeated [] ms) (rule6Of ms) (repeated-low [] r (omega arith)) (rule6-rows r (omega arith))
 
   rule6-row : {vs : Items} {a b : ℕ} → Row vs a b → b ≤ 65536 → All Low (rule6In vs)
   rule6-row (order.end h) k = tt
-  rule6-row (order.next {v = v} {vs = vs} h s r) k = low-both (rule6 v) (rule6In vs) (rule6-spans s (omega (arith, row-le r))) (rule6-row r k)
+  rule6-row (order.next {v = v} {vs = vs} h s r) k = all-append Low (rule6 v) (rule6In vs) (rule6-spans s (omega (arith, row-le r))) (rule6-row r k)
 
   rule6-rows : {ms : Members} {a b : ℕ} → Rows ms a b → b ≤ 65536 → All Low (rule6Of ms)
   rule6-rows (order.last h) k = tt
   rule6-rows (order.field {v = v} {ms = ms} h i l s r) k =
-      low-both (rule6 v) (rule6Of ms) (rule6-spans s (omega (arith, rows-le r))) (rule6-rows r k)
+      all-append Low (rule6 v) (rule6Of ms) (rule6-spans s (omega (arith, rows-le r))) (rule6-rows r k)
 
 -- ---- all rules
 
 -- a wider range of rules
 wider : (lo hi lo′ hi′ : ℕ) → lo′ ≤ lo → hi ≤ hi′ → (fs : List ℕ) → All (Among lo hi) fs → All (Among lo′ hi′) fs
-wider lo hi lo′ hi′ h k [] a = tt
-wider lo hi lo′ hi′ h k (f ∷ fs) a = let (l, u) = a .0 in ((omega arith, omega arith), wider lo hi lo′ hi′ h k fs (a .1))
+wider lo hi lo′ hi′ h k fs a = all-map (λ f (l, u). (omega arith, omega arith)) fs a
 
 -- the faults of the rules 5 to 14
 abbrev pub early : Json → List ℕ
@@ -614,8 +602,8 @@ pub early-among : (v : Json) → Placed v → All (Among 5 15) (early v)
 early-among v p =
     let a = map (fault 5) (rule5 v) in
     let b = map (fault 6) (rule6 v) in
-    both 5 15 (a ++ b) (cityJson v)
-    (both 5 15 a b (wider 5 6 5 15 (omega arith) (omega arith) a (rule-among 5 6 5 tt (rule5 v) (rule5-low v p))) (wider 6 7 5 15 (omega arith) (omega arith) b (rule-among 6 7 6 tt (rule6 v) (rule6-spans (p .spans) (p .before)))))
+    all-append (Among 5 15) (a ++ b) (cityJson v)
+    (all-append (Among 5 15) a b (wider 5 6 5 15 (omega arith) (omega arith) a (rule-among 5 6 5 tt (rule5 v) (rule5-low v p))) (wider 6 7 5 15 (omega arith) (omega arith) b (rule-among 6 7 6 tt (rule6 v) (rule6-spans (p .spans) (p .before)))))
     (wider 7 15 5 15 (omega arith) (omega arith) (cityJson v) (root-safe v p))
 
 -- a fault of a rule from 5 to 17
@@ -624,4 +612,4 @@ Small f = Among 5 18 f
 
 pub faults-small : (v : Json) → Placed v → All Small (faults v)
 unfolding faults
-faults-small v p = both 5 18 (early v) (linkFaults v) (wider 5 15 5 18 (omega arith) (omega arith) (early v) (early-among v p)) (wider 15 18 5 18 (omega arith) (omega arith) (linkFaults v) (links-safe v p))
+faults-small v p = all-append (Among 5 18) (early v) (linkFaults v) (wider 5 15 5 18 (omega arith) (omega arith) (early v) (early-among v p)) (wider 15 18 5 18 (omega arith) (omega arith) (linkFaults v) (links-safe v p))

@@ -8,7 +8,7 @@ use Rattle.utf8.specs.Ascii.{ascii}
 use Rattle.json.specs.Tree.{Json, num, str, arr, obj, noItems, _▸_, Members, empty, member}
 use Rattle.json.specs.Machine.{reads, read}
 use Rattle.everywhere.specs.Everywhere.{rule5}
-use Rattle.nodes.specs.Faults.{fault, least, noFault as top}
+use Rattle.nodes.specs.Faults.{fault, least, noFault}
 use Rattle.fields.specs.Fields.{objectsOf}
 use Rattle.schema.specs.Schema.{cityJson}
 use Rattle.links.specs.Links.{linkFaults}
@@ -63,7 +63,6 @@ examples =
     ∷ (withTransform "{\"scale\":[1,1,1],\"translate\":[0,0,0]}", accepted 0)
     -- no vertex
     ∷ (withVertices "[]", accepted 0)
-    -- rule 7
     -- rule 7: an escape in the name `type` is decoded
     ∷ (ascii "{\"ty\\u0070e\":1}", refused 7 13)
     -- rule 7 comes before rule 8, though the place of rule 8 is earlier
@@ -104,7 +103,6 @@ examples =
     ∷ (withObjects "{\"a\":{\"type\":\"Road\",\"scale\":0,\"lod\":0,\"attributes\":{\"type\":0}}}", accepted 1)
     -- rule 7: `children` and `parent` of a surface are unexamined
     ∷ (withGeometries "{\"type\":\"MultiPoint\",\"lod\":\"1\",\"boundaries\":[0],\"semantics\":{\"surfaces\":[{\"type\":\"Door\",\"children\":0,\"parent\":\"x\"}],\"values\":[0]}}", accepted 1)
-    -- rule 8
     -- rule 8: the root has no `vertices`
     ∷ (ascii " {\"type\":\"\",\"version\":\"\",\"transform\":{},\"CityObjects\":{}}", refused 8 1)
     -- rule 8: `transform` has no `translate`
@@ -125,7 +123,6 @@ examples =
     ∷ (withGeometries "{\"type\":\"MultiPoint\",\"lod\":\"1\",\"boundaries\":[0],\"semantics\":{\"surfaces\":[{\"type\":\"Door\"},{}],\"values\":[0]}}", refused 8 259)
     -- rule 8: a name counts only in the object it belongs to
     ∷ (withGeometries "{\"lod\":\"1\",\"boundaries\":[0],\"texture\":{\"type\":\"MultiPoint\"}}", refused 8 170)
-    -- rule 10
     -- rule 10: the root's `type` is `CityJSON`
     ∷ (ascii "{\"type\":\"CityJSONFeature\",\"version\":\"2.0\",\"transform\":{\"scale\":[1,1,1],\"translate\":[0,0,0]},\"CityObjects\":{},\"vertices\":[]}", refused 10 8)
     -- rule 10: `version` is `2.0`
@@ -158,7 +155,6 @@ examples =
     ∷ (withGeometries "{\"type\":\"MultiPoint\",\"lod\":\"1\",\"boundaries\":[0],\"semantics\":{\"surfaces\":[{\"type\":\"+a\"}],\"values\":[0]}}", accepted 1)
     -- rule 10: a surface type is not `+` alone
     ∷ (withGeometries "{\"type\":\"MultiPoint\",\"lod\":\"1\",\"boundaries\":[0],\"semantics\":{\"surfaces\":[{\"type\":\"+\"}],\"values\":[0]}}", refused 10 251)
-    -- rule 11
     -- rule 11: `GeometryInstance`
     ∷ (withGeometries "{\"type\":\"GeometryInstance\",\"template\":0,\"boundaries\":[0]}", refused 11 178)
     -- rule 11: `GeometryInstance` with a `lod` and a boundary of a wrong shape
@@ -171,7 +167,6 @@ examples =
     ∷ (withObjects "{\"a\":{\"type\":\"\\u002bHouse\"}}", refused 11 133)
     -- rule 11 comes after rule 10
     ∷ (withGeometries "{\"type\":\"GeometryInstance\",\"lod\":\"x\",\"boundaries\":[0]}", refused 10 203)
-    -- rule 12
     -- rule 12: `scale` holds three numbers
     ∷ (withTransform "{\"scale\":[1,1],\"translate\":[0,0,0]}", refused 12 89)
     -- rule 12: `translate` holds three numbers
@@ -235,7 +230,6 @@ examples =
     ∷ (withGeometries "{\"type\":\"MultiPoint\",\"lod\":\"1\",\"boundaries\":[0],\"semantics\":{\"surfaces\":[{\"type\":\"Window\"}],\"values\":[0.0]}}", refused 12 272)
     -- rule 12: values are not judged if the boundary has a wrong shape
     ∷ (withGeometries "{\"semantics\":{\"values\":[0,0,0],\"surfaces\":[{\"type\":\"Window\"}]},\"type\":\"MultiPoint\",\"lod\":\"1\",\"boundaries\":[\"x\"]}", refused 12 277)
-    -- rule 13
     -- rule 13: the greatest 32-bit integer
     ∷ (withVertices "[[2147483647,0,0]]", accepted 0)
     -- rule 13: one more
@@ -278,7 +272,6 @@ examples =
     ∷ (withTransform "{\"scale\":[1,1,1],\"translate\":[0,1000000000000001,0]}", refused 13 112)
     -- rule 13: zero is (0, 0) however it is written
     ∷ (withTransform "{\"scale\":[-0,0.000,0e99],\"translate\":[0E-99,-0.0e1,0]}", accepted 0)
-    -- rule 14
     -- rule 14: LandUse has a MultiSurface
     ∷ (withObjects "{\"a\":{\"type\":\"LandUse\",\"geometry\":[{\"type\":\"MultiSurface\",\"lod\":\"1\",\"boundaries\":[[[0]]]}]}}", accepted 1)
     -- rule 14: LandUse has no Solid
@@ -297,7 +290,6 @@ examples =
     ∷ (withObjects "{\"a\":{\"geometry\":[{\"type\":\"MultiPoint\",\"lod\":\"1\",\"boundaries\":[0]}],\"type\":\"Bridge\"}}", refused 14 146)
     -- rule 14 comes after rule 13
     ∷ (withObjects "{\"a\":{\"type\":\"LandUse\",\"geometry\":[{\"type\":\"MultiPoint\",\"lod\":\"1\",\"boundaries\":[1]}]}}", refused 13 200)
-    -- rule 15
     -- rule 15: a child that is no object
     ∷ (withObjects "{\"a\":{\"type\":\"Road\",\"children\":[\"b\"]}}", refused 15 152)
     -- rule 15: a parent that is no object
@@ -314,7 +306,6 @@ examples =
     ∷ (withObjects "{\"a\":{\"type\":\"Road\",\"children\":[\"a\"],\"parents\":[\"a\"]}}", accepted 1)
     -- rule 15: `children` among the attributes is unexamined
     ∷ (withObjects "{\"a\":{\"type\":\"Road\",\"attributes\":{\"children\":[\"b\"]}}}", accepted 1)
-    -- rule 16
     -- rule 16: a second-level object with no `parents`
     ∷ (withObjects "{\"a\":{\"type\":\"BuildingPart\"}}", refused 16 125)
     -- rule 16: a second-level object with an empty list of parents
@@ -327,7 +318,6 @@ examples =
     ∷ (withObjects "{\"a\":{\"type\":\"Building\",\"children\":[\"b\"]},\"b\":{\"type\":\"BuildingRoom\",\"parents\":[\"a\"]}}", accepted 2)
     -- rule 16 comes before rule 17
     ∷ (withObjects "{\"a\":{\"type\":\"Building\",\"children\":[\"b\"]},\"b\":{\"type\":\"BuildingPart\"}}", refused 16 166)
-    -- rule 17
     -- rule 17: a listed child does not list the object as parent
     ∷ (withObjects "{\"a\":{\"type\":\"Road\",\"children\":[\"b\"]},\"b\":{\"type\":\"Road\"}}", refused 17 152)
     -- rule 17: a listed parent does not list the object as child
@@ -415,7 +405,7 @@ three-roads = refl
 -- the verdict of a tree by rules 5 and 7 to 17: rule 6 is left out, since computing it for so many names takes long
 unfoldable judgedButNames : Json → Verdict
 unfolding given least fault rule5 cityJson linkFaults objectsOf
-judgedButNames v = given (length (objectsOf v)) (least top (map (fault 5) (rule5 v) ++ (cityJson v ++ linkFaults v)))
+judgedButNames v = given (length (objectsOf v)) (least noFault (map (fault 5) (rule5 v) ++ (cityJson v ++ linkFaults v)))
 
 -- rule 9: 1,024 objects are not too many; stated of the tree, since reading so long a text takes minutes by computation
 not-too-many : judgedButNames (manyRoads 1024) ≡ accepted 1024

@@ -47,7 +47,7 @@ screening text =
     cond (ltb 65535 (length text)) (some (refused 1 65535))
     (cond (ltb (wholeLength text) (length text)) (some (refused 2 (wholeLength text))) none)
 
--- they come first
+-- the verdict of a text: rules 1 and 2 come first
 unfoldable pub verdict : List ℕ → Verdict
 unfolding screening parsed read
 verdict text = elim (screening text) [ some v ↦ v | none ↦ parsed (read text) ]
