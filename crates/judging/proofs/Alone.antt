@@ -16,6 +16,7 @@ use Rattle.nodes.specs.Access.{nameOf, pairs, members, firstNamed, find}
 use Rattle.everywhere.specs.Everywhere.{among, repeated, rule6, rule6Of}
 use Rattle.fields.specs.Fields.{membersIn, objectsOf}
 use Rattle.model.specs.Model.{objectNumber}
+use Rattle.model.specs.AlikeLaws.{members-keep, named-keeps}
 use Rattle.ids.specs.Says.{namesOf}
 use Rattle.sheets.specs.Clear.{nil-left, nil-right}
 
@@ -56,25 +57,6 @@ numbered us (member n v ms) e (suc k) h =
 
 -- ---- the object that holds the city objects
 
--- a member's value keeps the rule where all do
-member-keeps : (name : List ℕ) (ms : Members) (o : Json) → rule6Of ms ≡ [] → firstNamed name (pairs ms) ≡ some o → rule6 o ≡ []
-unfolding rule6 pairs firstNamed nameOf
-member-keeps name empty o e f = cc
-member-keeps name (member n v ms) o e f = by (same name (decode (n .raw))) f (member-keeps name ms o (nil-right (rule6 v) (rule6Of ms) e))
-  where
-    by : (b : Bool) → cond b (some v) (firstNamed name (pairs ms)) ≡ some o → (firstNamed name (pairs ms) ≡ some o → rule6 o ≡ []) → rule6 o ≡ []
-    by true g later = let z : v ≡ o = cc in rw (← z) (nil-left (rule6 v) (rule6Of ms) e)
-    by false g later = later g
-
-found-keeps : (name : List ℕ) (v o : Json) → rule6 v ≡ [] → firstNamed name (members v) ≡ some o → rule6 o ≡ []
-unfolding rule6 members firstNamed
-found-keeps name (null p e) o c f = cc
-found-keeps name (bool p e b) o c f = cc
-found-keeps name (num p e raw) o c f = cc
-found-keeps name (str p e raw) o c f = cc
-found-keeps name (arr p e vs) o c f = cc
-found-keeps name (obj p e ms) o c f = member-keeps name ms o (nil-right (repeated [] ms) (rule6Of ms) c) f
-
 of-value : (o : Json) → rule6 o ≡ [] → (k : ℕ) → k < length (members o) → objectNumber (namesOf (members o)) (getD (namesOf (members o)) k []) ≡ k
 unfolding rule6 members
 of-value (null p e) c k h = absurd (omega arith)
@@ -91,4 +73,4 @@ alone v c k h = by (firstNamed (ascii "CityObjects") (members v)) refl h
   where
     by : (o : Option Json) → firstNamed (ascii "CityObjects") (members v) ≡ o → k < length (membersIn o) → objectNumber (namesOf (membersIn o)) (getD (namesOf (membersIn o)) k []) ≡ k
     by option.none f l = absurd (omega arith)
-    by (some o) f l = of-value o (found-keeps (ascii "CityObjects") v o c f) k l
+    by (some o) f l = of-value o (named-keeps (ascii "CityObjects") (members v) o (members-keep v c) f) k l

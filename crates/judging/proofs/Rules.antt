@@ -1,7 +1,7 @@
 -- What the proofs of the functions that judge use.
 use Prim.Native.Nat.{ℕ, _≤_, _<_}
 use native.Mathlib.Omega.{arith}
-use mathlib.Core.Path.{_≡_, sym, ap, _∙_, subst}
+use mathlib.Core.Path.{_≡_, ap, _∙_, subst}
 use mathlib.Core.List.{List, map}
 use lib.ListN.{length}
 use borrow.Author.Needs.{needs}

@@ -14,7 +14,7 @@ use Rattle.json.specs.Tree.{Json}
 use Rattle.nodes.specs.Access.{members, Member, find}
 use Rattle.everywhere.specs.Everywhere.{rule5, rule6}
 use Rattle.nodes.specs.Faults.{fault, least, noFault, ruleOf, placeIn}
-use Rattle.nodes.specs.Laws.{least-++}
+use Rattle.nodes.specs.Laws.{least-++, least-le}
 use Rattle.shapes.specs.Checks.{all, on, at, needs, objectKind}
 use Rattle.fields.specs.Fields.{membersIn, countIn, objectsOf}
 use Rattle.schema.specs.Schema.{cityJson, cityObjects, objectLimit, nameFault, transform, word}
@@ -22,7 +22,6 @@ use Rattle.links.specs.Links.{linkFaults}
 use Rattle.model.specs.Code.{All}
 use Rattle.verdict.specs.Verdict.{accepted, refused, faults, given, judged}
 use Rattle.sheets.specs.Clear.{nil-left, nil-right}
-use Rattle.verdict.specs.Exact.{least-best}
 use Rattle.verdict.specs.Places.{Among, Placed, early, early-among, links-safe, faults-small}
 
 -- ---- the least of a list of faults of the rules from lo to before hi
@@ -42,7 +41,7 @@ least-among lo hi b (f ∷ fs) a = by (least-among lo hi (min b f) fs (a .1)) (d
 nothing : (lo hi b : ℕ) (fs : List ℕ) → All (Among lo hi) fs → hi * 65536 ≤ least b fs → fs ≡ []
 unfolding least
 nothing lo hi b [] a h = refl
-nothing lo hi b (f ∷ fs) a h = absurd (omega (arith, a .0 .1, least-best (min b f) fs))
+nothing lo hi b (f ∷ fs) a h = absurd (omega (arith, a .0 .1, least-le (min b f) fs))
 
 -- ---- a tree
 
@@ -66,7 +65,7 @@ module _ (v : Json) (d : Placed v) where
       of : (least noFault (early v) ≡ noFault) ⊎ Among 5 15 (least noFault (early v)) → (least c (linkFaults v) ≡ c) ⊎ Among 15 18 (least c (linkFaults v)) → c ≡ least c (linkFaults v)
       of (inl e) k = absurd (omega arith)
       of (inr k) (inl e) = sym e
-      of (inr k) (inr l) = absurd (omega (arith, k .1, l .0, least-best c (linkFaults v)))
+      of (inr k) (inr l) = absurd (omega (arith, k .1, l .0, least-le c (linkFaults v)))
 
   -- no fault of the rules 5 to 14: none of rule 6
   pub no-repeat : {c : ℕ} → c ≡ least noFault (early v) → noFault ≤ c → rule6 v ≡ []

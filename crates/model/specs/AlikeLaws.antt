@@ -242,7 +242,7 @@ elements-keep (str p e raw) c = tt
 elements-keep (arr p e vs) c = items-keep vs c
 elements-keep (obj p e ms) c = tt
 
-members-keep : (v : Json) → Keeps v → All (λ (m : Member). Keeps (m .1)) (members v)
+pub members-keep : (v : Json) → Keeps v → All (λ (m : Member). Keeps (m .1)) (members v)
 unfolding rule6 members
 members-keep (null p e) c = tt
 members-keep (bool p e b) c = tt
@@ -251,7 +251,7 @@ members-keep (str p e raw) c = tt
 members-keep (arr p e vs) c = tt
 members-keep (obj p e ms) c = pairs-keep ms (append-eq-nil-iff {p = repeated [] ms} .0 c .1)
 
-named-keeps : (w : List ℕ) (l : List Member) (j : Json) → All (λ (m : Member). Keeps (m .1)) l → firstNamed w l ≡ some j → Keeps j
+pub named-keeps : (w : List ℕ) (l : List Member) (j : Json) → All (λ (m : Member). Keeps (m .1)) l → firstNamed w l ≡ some j → Keeps j
 unfolding firstNamed
 named-keeps w [] j a e = absurd (named-nil w j e)
 named-keeps w (m ∷ l) j a e = ⊎-elim (λ p. rw (← p .1) (a .0)) (named-keeps w l j (a .1)) (one-or-rest w m l j e)

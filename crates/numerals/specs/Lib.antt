@@ -4,3 +4,4 @@ pub mod Examples
 pub mod Laws
 pub mod Reading
 pub mod Values
+pub mod Parts

@@ -5,13 +5,15 @@ use mathlib.Core.Path.{_≡_, refl, sym, ap, _∙_}
 use mathlib.Core.Logic.{inl, inr, _↔_}
 use mathlib.Core.Bool.{Bool, true, false, cond}
 use mathlib.Core.List.{List}
+use mathlib.Core.Option.{none, some}
 use native.Mathlib.Omega.{arith}
 use native.Mathlib.Nat.{zero-mul, mul-assoc, pow-suc, mul-pos, one-le-pow, eq-of-mul-eq-mul-right}
 use lib.Dec.{eqb}
 use lib.Pow.{pow-add}
 use lib.IntN.{ℤ, pos, negsuc, negℤ, natAbs, pos-ne-negsuc, +ℤ-assoc, +ℤ-invl, +ℤ-negℤ-cancel, _+ℤ_, _-ℤ_, _*ℤ_}
 use borrow.Author.Tests.{eqb-true}
-use Rattle.numerals.specs.Numerals.{Decimal, Trimmed, trimmed, none-yet, natural, digits, mantissa, places, exponent, negative, signed, scaled, decimal}
+use Rattle.utf8.specs.Laws.{clash}
+use Rattle.numerals.specs.Numerals.{Decimal, Trimmed, trimmed, none-yet, natural, digits, mantissa, places, exponent, negative, signed, scaled, decimal, inRange, pairOf}
 use Rattle.numerals.specs.Laws.{Canonical, canonical, meaning, natAbs-signed, zero-signed, times-signed}
 
 -- a numeral is its digits before the exponent, as one number with its sign, times ten to the exponent less the places after the point (RFC 8259, section 6)
@@ -200,3 +202,15 @@ by-value raw raw′ =
       (λ e. value-trans (rw e at h) (value-sym h′)),
       (λ s. one-pair (decimal raw) (decimal raw′) (canonical raw) (canonical raw′) (value-trans (value-sym h) (value-trans s h′))),
     )
+
+-- the pair of a numeral, in document 01's words (rule 13): the one of that form and in range that has the value that the numeral writes
+pub pair-exactly : (raw : List ℕ) (d : Decimal) → (pairOf raw ≡ some d) ↔ (Canonical d × (inRange d ≡ true) × SameValue (asWritten raw) d)
+unfolding pairOf
+pair-exactly raw d = ((λ e. to (inRange (decimal raw)) refl e), from)
+  where
+    to : (b : Bool) → inRange (decimal raw) ≡ b → cond b (some (decimal raw)) none ≡ some d → Canonical d × (inRange d ≡ true) × SameValue (asWritten raw) d
+    to true q e = let z : decimal raw ≡ d = cc in rw (← z) (canonical raw, q, has-value raw)
+    to false q e = clash cc
+
+    from : Canonical d × (inRange d ≡ true) × SameValue (asWritten raw) d → pairOf raw ≡ some d
+    from (c, q, s) = let z = one-pair (decimal raw) d (canonical raw) c (value-trans (value-sym (has-value raw)) s) in rw (z, q)

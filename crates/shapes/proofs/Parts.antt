@@ -29,7 +29,7 @@ use Rattle.shapes.specs.Says.{pairedAs, GivesPair}
 use Rattle.shapes.specs.declared.Paired.{Paired}
 use Rattle.shapes.specs.declared.Paired.the-variants.{Fault}
 use Rattle.shapes.specs.declared.Paired.the-variants as paired
-use Rattle.shapes.specs.Laws.{least-turn, unless-true, unless-yes, unless-told, each-none, numeral-none, numeral-is, kind-no, kind-yes}
+use Rattle.shapes.specs.Laws.{least-turn, unless-true, unless-told, each-none, numeral-none, numeral-is, kind-no, kind-yes}
 
 -- a test or another that is known
 pub or-true : (b : Bool) → b || true ≡ true

@@ -5,7 +5,7 @@ use Prim.Native.String.{String}
 use native.Mathlib.Omega.{arith}
 use mathlib.Core.Path.{_≡_, sym, subst}
 use mathlib.Core.Bool.{Bool, true, false, cond}
-use mathlib.Core.List.{List, [], _∷_, _++_, map, map-eq-nil-iff, List·Memᴰ, List·Memᴰ·head, List·Memᴰ·tail}
+use mathlib.Core.List.{List, [], _∷_, _++_, map, map-eq-nil-iff, List·Memᴰ}
 use mathlib.Core.Option.{Option, some, Option·map}
 use mathlib.Core.Option as option
 use lib.ListN.{getD}

@@ -17,7 +17,7 @@ use Rattle.nodes.specs.Access.{members}
 use Rattle.everywhere.specs.Everywhere.{strings}
 use Rattle.verdict.specs.Verdict.{Verdict, accepted, verdict}
 use Rattle.verdict.specs.Verdict as judge
-use Rattle.verdict.specs.Exact.{Breaks, Least, accepted-exactly, refused-exactly}
+use Rattle.verdict.specs.Exact.{BreaksNone, Least, accepts, accepted-exactly, refused-exactly}
 use Rattle.model.specs.Model.{sheetOf}
 use Rattle.model.specs.Good.{GoodModel}
 use Rattle.model.specs.Read.{get, objectOf, modelOf}
@@ -82,17 +82,21 @@ room = room-length
 pub eighteen : (x : List ℕ) (r : ℕ) → (answer x r ≡ refused 18 0) ↔ (((n : ℕ) × (verdict x ≡ accepted n)) × (r < length (sheetOfText x)))
 eighteen x r = (too-long x r, (λ ((n, e), h). does-not-fit x r n e h))
 
--- demand 2 for lay: a text is laid exactly if it breaks no rule and its sheet fits
-pub laid-exactly : (x : List ℕ) (r : ℕ) → ((l n : ℕ) × (answer x r ≡ laid l n)) ↔ (((s p : ℕ) → Breaks x s p → ⊥) × (length (sheetOfText x) ≤ r))
+-- demand 2 for lay: a text is laid exactly if it breaks no rule and its sheet fits, and the answer is the sheet's length and the object count
+pub laid-exactly : (x : List ℕ) (r l n : ℕ) → (answer x r ≡ laid l n) ↔ (BreaksNone x × (l ≡ length (sheetOfText x)) × (l ≤ r) × (n ≡ length (modelOfText x .objects)))
 unfolding answer fitted
-laid-exactly x r = (
-  (λ (l, n, e). let q = of-laid x r l n e in (accepted-exactly x .0 (n, q .accepted), omega (arith, q .size, q .fits))),
-  (λ (f, h). let (n, e) = accepted-exactly x .1 f in (length (sheetOfText x), n, rw (e, le-leb (length (sheetOfText x)) r h))),
+laid-exactly x r l n = (
+  (λ e. let (s, h, _, c) = sizes x r l n e in (accepted-exactly x n .0 (of-laid x r l n e .accepted) .0, s, h, c)),
+  (λ (f, s, h, c).
+      let (k, e) = accepts x f in
+      let size : length (sheetOfText x) ≡ l = sym s in
+      let objects : k ≡ n = count x k e ∙ sym c in
+      rw (e, le-leb (length (sheetOfText x)) r (omega arith)) (λ i. laid (size i) (objects i))),
 )
 
 -- the text breaks no rule and its sheet is longer than the room: 18 at 0
 abbrev pub NoRoom : List ℕ → ℕ → ℕ → ℕ → Type 0
-NoRoom x r s p = (s ≡ 18) × (p ≡ 0) × ((t q : ℕ) → Breaks x t q → ⊥) × (r < length (sheetOfText x))
+NoRoom x r s p = (s ≡ 18) × (p ≡ 0) × BreaksNone x × (r < length (sheetOfText x))
 
 -- and is refused exactly by the lowest broken rule at its earliest place, or by 18 at 0 where only the room is too short
 pub refused-lowest : (x : List ℕ) (r s p : ℕ) → (answer x r ≡ refused s p) ↔ (Least x s p ⊎ NoRoom x r s p)
@@ -102,7 +106,7 @@ refused-lowest x r s p = ((λ e. to (verdict x) refl e), from)
     to-room : (k : ℕ) (b : Bool) → verdict x ≡ accepted k → leb (length (sheetOfText x)) r ≡ b
         → cond b (laid (length (sheetOfText x)) k) (refused 18 0) ≡ refused s p → NoRoom x r s p
     to-room k true q h c = clash cc
-    to-room k false q h c = let a : s ≡ 18 = cc in let b : p ≡ 0 = cc in (a, b, accepted-exactly x .0 (k, q), leb-false _ r h)
+    to-room k false q h c = let a : s ≡ 18 = cc in let b : p ≡ 0 = cc in (a, b, accepted-exactly x k .0 q .0, leb-false _ r h)
 
     to : (o : Verdict) → verdict x ≡ o → fitted x r o ≡ refused s p → Least x s p ⊎ NoRoom x r s p
     to (judge.accepted k) q d = inr (to-room k (leb (length (sheetOfText x)) r) q refl d)
@@ -110,7 +114,7 @@ refused-lowest x r s p = ((λ e. to (verdict x) refl e), from)
 
     from : Least x s p ⊎ NoRoom x r s p → answer x r ≡ refused s p
     from (inl a) = rw (refused-exactly x s p .1 a)
-    from (inr h) = rw (h .0, h .1) (eighteen x r .1 (accepted-exactly x .1 (h .2), h .3))
+    from (inr h) = rw (h .0, h .1) (eighteen x r .1 (accepts x (h .2), h .3))
 
 -- alike texts have the same model and the same sheet
 pub alike : (x y : List ℕ) → Alike (treeOf x) (treeOf y) → (modelOfText x ≡ modelOfText y) × (sheetOfText x ≡ sheetOfText y)

@@ -2,7 +2,7 @@
 use Prim.Native.Nat.{ℕ, _+_, _*_, _/_, _%_, _≤_, _<_, min}
 use native.Mathlib.Omega.{arith}
 use native.Mathlib.Decide.{decLt}
-use mathlib.Core.Path.{_≡_, refl, ap, _∙_}
+use mathlib.Core.Path.{_≡_, refl, sym, ap, _∙_}
 use mathlib.Core.Bool.{cond}
 use mathlib.Core.List.{List, [], _∷_, List·Memᴰ, List·Memᴰ·head, List·Memᴰ·tail, List·Memᴰ·not-nil}
 use mathlib.Core.Logic.{_⊎_, inl, inr, _↔_}
@@ -16,6 +16,7 @@ use Rattle.json.specs.Grammar.{Text, Begins}
 use Rattle.grammar.specs.Theorems.{read-text, one-tree, ordered, Stopped, stops, stops-exactly, bad-never, deep-deeper}
 use Rattle.grammar.specs.Reaches.{shorter, begun}
 use Rattle.nodes.specs.Faults.{fault, ruleOf, placeIn, least, noFault}
+use Rattle.nodes.specs.Laws.{least-le}
 use Rattle.fields.specs.Fields.{objectsOf}
 use Rattle.model.specs.Code.{All}
 use Rattle.model.specs.Lists.{one-of}
@@ -39,20 +40,18 @@ pub data Breaks (x : List ℕ) : ℕ → ℕ → Type 0 where
   too-deep : {n l : ℕ} → Longest x n → n < length x → Begins l (take (n + 1) x) → Breaks x 4 n
   in-tree : {r p : ℕ} (v : Json) → length x ≤ 65535 → Text 32 x v → p < 65536 → List·Memᴰ (fault r p) (faults v) → Breaks x r p
 
+abbrev pub BreaksNone : List ℕ → Type 0
+BreaksNone x = (r p : ℕ) → Breaks x r p → ⊥
+
 -- the first is a lower rule than the second, or the same at a place that is no later
 abbrev pub NoLater : ℕ → ℕ → ℕ → ℕ → Type 0
 NoLater r p s q = (r < s) ⊎ ((r ≡ s) × (p ≤ q))
 
 -- ---- the least of a list
 
-pub least-best : (b : ℕ) (fs : List ℕ) → least b fs ≤ b
-unfolding least
-least-best b [] = omega arith
-least-best b (f ∷ fs) = omega (arith, least-best (min b f) fs)
-
 least-low : (b : ℕ) {f : ℕ} {fs : List ℕ} → List·Memᴰ f fs → least b fs ≤ f
 unfolding least
-least-low b (List·Memᴰ·head {x = g} {xs = fs} e) = omega (arith, least-best (min b g) fs)
+least-low b (List·Memᴰ·head {x = g} {xs = fs} e) = omega (arith, least-le (min b g) fs)
 least-low b (List·Memᴰ·tail {x = g} m) = least-low (min b g) m
 
 least-in : (b : ℕ) (fs : List ℕ) → (least b fs ≡ b) ⊎ List·Memᴰ (least b fs) fs
@@ -216,18 +215,26 @@ module _ (x : List ℕ) (h : length x ≤ 65535) (w : length x ≤ wholeLength x
       let a = stopped x p (inr e) in
       broken (record { broken = too-deep a k b; least = four-first x h w p 33 a k b })
 
+-- the verdict that a least fault gives
+given-case : {x : List ℕ} (n f : ℕ) → (f < noFault → Least x (ruleOf f) (placeIn f)) → (noFault ≤ f → Clean x n) → Case x (given n f)
+unfolding given
+given-case {x} n f least none = by (decLt f noFault)
+  where
+    by : Dec (f < noFault) → Case x (cond (ltb f noFault) (refused (ruleOf f) (placeIn f)) (accepted n))
+    by (yes k) = rw (lt-ltb f noFault k) (broken (least k))
+    by (no k) = rw (le-ltb f noFault (omega arith)) (clean (none (omega arith)))
+
 -- the tree's verdict
 of-tree : (x : List ℕ) (v : Json) → length x ≤ 65535 → length x ≤ wholeLength x → read x ≡ reads v → Case x (judged v)
-unfolding judged given
-of-tree x v h w e = by (decLt (least noFault (faults v)) noFault)
+unfolding judged
+of-tree x v h w e =
+    given-case _ _
+    (λ k. record { broken = breaks x v h e (found (least-in noFault (faults v)) k); least = tree-first x h w v (read-text x v .0 e) })
+    (λ k. record { short = h; whole = w; value = v; reads = e; clean = least-none (faults v) (faults-small v (in-text x v h e)) k; count = refl })
   where
     found : (least noFault (faults v) ≡ noFault) ⊎ List·Memᴰ (least noFault (faults v)) (faults v) → least noFault (faults v) < noFault → List·Memᴰ (least noFault (faults v)) (faults v)
     found (inl q) k = absurd (omega arith)
     found (inr m) k = m
-
-    by : Dec (least noFault (faults v) < noFault) → Case x (cond (ltb (least noFault (faults v)) noFault) (refused (ruleOf (least noFault (faults v))) (placeIn (least noFault (faults v)))) (accepted (length (objectsOf v))))
-    by (yes k) = rw (lt-ltb (least noFault (faults v)) noFault k) (broken (record { broken = breaks x v h e (found (least-in noFault (faults v)) k); least = tree-first x h w v (read-text x v .0 e) }))
-    by (no k) = rw (le-ltb (least noFault (faults v)) noFault (omega arith)) (clean (record { short = h; whole = w; value = v; reads = e; clean = least-none (faults v) (faults-small v (in-text x v h e)) (omega arith); count = refl }))
 
 cases : (x : List ℕ) → Case x (verdict x)
 unfolding parsed
@@ -259,7 +266,7 @@ accepted-clean x n e = of (rw e at (cases x))
 text-of : {x : List ℕ} {n : ℕ} (c : Clean x n) → Text 32 x (c .value)
 text-of {x} c = read-text x (c .value) .0 (c .reads)
 
-clean-none : (x : List ℕ) (n : ℕ) → Clean x n → (r p : ℕ) → Breaks x r p → ⊥
+clean-none : (x : List ℕ) (n : ℕ) → Clean x n → BreaksNone x
 clean-none x n c r p (too-long k) = omega (arith, c .short)
 clean-none x n c r p (not-utf8 k) = omega (arith, c .whole)
 clean-none x n c r p (not-json a k f) = omega (arith, all-of (text-of c) a)
@@ -267,13 +274,23 @@ clean-none x n c r p (incomplete a k f) = f (c .value) (text-of c)
 clean-none x n c r p (too-deep a k b) = omega (arith, all-of (text-of c) a)
 clean-none x n c r p (in-tree v l d k m) = let z = one-tree 32 x v (c .value) d (text-of c) in List·Memᴰ·not-nil (rw (z, c .clean) at m)
 
--- a text is accepted exactly if it breaks no rule
-pub accepted-exactly : (x : List ℕ) → ((n : ℕ) × (verdict x ≡ accepted n)) ↔ ((r p : ℕ) → Breaks x r p → ⊥)
-accepted-exactly x = ((λ (n, e). clean-none x n (accepted-clean x n e)), (λ f. of (verdict x) refl f))
+-- a text that breaks no rule is accepted
+pub accepts : (x : List ℕ) → BreaksNone x → (n : ℕ) × (verdict x ≡ accepted n)
+accepts x f = of (verdict x) refl
   where
-    of : (o : Verdict) → verdict x ≡ o → ((r p : ℕ) → Breaks x r p → ⊥) → (n : ℕ) × (verdict x ≡ accepted n)
-    of (accepted n) e f = (n, e)
-    of (refused r p) e f = absurd (f r p (refused-least x r p e .broken))
+    of : (o : Verdict) → verdict x ≡ o → (n : ℕ) × (verdict x ≡ accepted n)
+    of (accepted n) e = (n, e)
+    of (refused r p) e = absurd (f r p (refused-least x r p e .broken))
+
+-- a text is accepted with the count n exactly if it breaks no rule and the tree that the grammar derives has n city objects
+pub accepted-exactly : (x : List ℕ) (n : ℕ) → (verdict x ≡ accepted n) ↔ (BreaksNone x × ((v : Json) → Text 32 x v → n ≡ length (objectsOf v)))
+accepted-exactly x n = ((λ e. let c = accepted-clean x n e in (clean-none x n c, counted c)), (λ (f, g). let (k, e) = accepts x f in same k e g))
+  where
+    counted : {k : ℕ} (c : Clean x k) (v : Json) → Text 32 x v → k ≡ length (objectsOf v)
+    counted c v d = c .count ∙ ap (λ u. length (objectsOf u)) (one-tree 32 x (c .value) v (text-of c) d)
+
+    same : (k : ℕ) → verdict x ≡ accepted k → ((v : Json) → Text 32 x v → n ≡ length (objectsOf v)) → verdict x ≡ accepted n
+    same k e g = let c = accepted-clean x k e in e ∙ ap accepted (c .count ∙ sym (g (c .value) (text-of c)))
 
 -- one rule and one place are the lowest
 one-least : {x : List ℕ} {r p s q : ℕ} → Least x r p → Least x s q → (r ≡ s) × (p ≡ q)
@@ -290,5 +307,5 @@ pub refused-exactly : (x : List ℕ) (r p : ℕ) → (verdict x ≡ refused r p)
 refused-exactly x r p = (refused-least x r p, (λ a. of (verdict x) refl a))
   where
     of : (o : Verdict) → verdict x ≡ o → Least x r p → verdict x ≡ refused r p
-    of (accepted n) e a = absurd (accepted-exactly x .0 (n, e) r p (a .broken))
+    of (accepted n) e a = absurd (accepted-exactly x n .0 e .0 r p (a .broken))
     of (refused s q) e a = let (h, k) = one-least (refused-least x s q e) a in e ∙ ap (refused s) k ∙ ap (λ i. refused i p) h

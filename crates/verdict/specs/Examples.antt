@@ -1,4 +1,4 @@
--- Verdicts by computation: the sample reading of document 01 that has no star, and two texts that are accepted. The starred readings are in `sheets`.
+-- Verdicts by computation: the sample reading of document 01 that has no star, two texts that are accepted, and two that rules 3 and 4 refuse. The starred readings are in `sheets`.
 use Prim.Native.Nat.{ℕ}
 use mathlib.Core.Path.{_≡_, refl}
 use mathlib.Core.List.{List, [], _++_}
@@ -7,11 +7,21 @@ use Rattle.utf8.specs.Ascii.{ascii, isDigit}
 use Rattle.json.specs.Tree.{_◂_, with}
 use Rattle.json.specs.Machine.{step, wantStep, gotStep, nextStep, nameStep, mantStep, noughtStep, isBlank, isHex, isEscape}
 use Rattle.verdict.specs.Verdict.{Verdict, accepted, refused, verdict}
+use Rattle.verdict.specs.Exact.{Least, refused-least}
 
 -- opening this opens all that a verdict needs
 unfoldable pub judges : List ℕ → Verdict
 unfolding verdict ascii step wantStep gotStep nextStep nameStep mantStep noughtStep isBlank isDigit isHex isEscape _◂_ with
 judges text = verdict text
+
+-- rules 3 and 4 by the grammar: 32 levels that are not closed, and a 33rd
+open-32 : Least (replicate 32 91) 3 32
+unfolding judges
+open-32 = refused-least (replicate 32 91) 3 32 refl
+
+open-33 : Least (replicate 33 91) 4 32
+unfolding judges
+open-33 = refused-least (replicate 33 91) 4 32 refl
 
 closed-32 : judges (replicate 32 91 ++ replicate 32 93) ≡ refused 7 0
 unfolding judges

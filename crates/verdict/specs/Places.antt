@@ -18,7 +18,7 @@ use Rattle.strings.specs.Strings.{decode, unpairedFrom}
 use Rattle.strings.specs.Laws.{unpaired-within}
 use Rattle.nodes.specs.Access.{isNullValue, isNumberValue, isStringValue, isArrayValue, isObjectValue, textOf, numeralOf, listed, elements, pairs, members, Member, nameOf, firstNamed, find}
 use Rattle.everywhere.specs.Everywhere.{strings, stringsIn, stringsOf, unpairedIn, rule5, among, repeated, rule6, rule6In, rule6Of}
-use Rattle.nodes.specs.Faults.{fault, noFault}
+use Rattle.nodes.specs.Faults.{fault}
 use Rattle.shapes.specs.Checks.{Check, unless, all, on, at, forEach, eachElement, values, eachMember, objectKind, stringKind, numberKind, arrayKind, isSome, needs, text, numeral, isEmpty}
 use Rattle.numerals.specs.Numerals.{integer, pairOf, fits32, isBelow}
 use Rattle.shapes.specs.Shapes.{threeEntries, pairRange, coordinate, isTriple, vertex, shaped, ranged, forBoth, matches, isIntegerValue}
