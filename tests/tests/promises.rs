@@ -116,13 +116,16 @@ fn what_is_cited_exists() {
     let crates = crates();
     let public = public();
     let mut count = 0;
-    // A file, in the repository or in the crate of the row; a crate; a parameter of the
-    // row's function; a public function; else a definition of some crate.
+    // A public function; a file, in the repository or in the crate of the row; a crate; a
+    // parameter of the row's function; else a definition of some crate.
     let mut cited = |word: &str, row: &str| {
         let place = row.trim().trim_start_matches('`').split("::").next().expect("a crate");
         let mut parameters = row.split(['(', ')', ',', '`']).map(str::trim);
         let mut names = public.keys().map(|name| name.split_once("::").expect("a crate").1);
         count += 1;
+        if word.contains("::") {
+            return public.contains_key(word.split('(').next().expect("a name"));
+        }
         if word.contains('/') {
             return root().join(word).exists() || root().join(format!("crates/{place}/{word}")).exists();
         }

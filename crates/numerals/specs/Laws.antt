@@ -4,7 +4,7 @@ use Prim.Native.Nat.{ℕ, zero, suc, _+_, _-_, _*_, _^_, _%_, _≤_, _<_}
 use mathlib.Core.Path.{_≡_, refl, sym, ap, _∙_}
 use mathlib.Core.Logic.{_⊎_, inl, inr}
 use mathlib.Core.Bool.{Bool, true, false, cond, not, _&&_, _||_}
-use mathlib.Core.List.{List, [], _∷_, _++_}
+use mathlib.Core.List.{List, [], _∷_, _++_, append-nil}
 use native.Mathlib.Omega.{arith}
 use native.Mathlib.Nat.{add-zero, mul-assoc, pow-suc, mul-one, zero-mul}
 use native.Mathlib.Numerals.{add-one}
@@ -38,13 +38,14 @@ meaning ds = meaning-after none-yet ds
 abbrev pub Canonical : Decimal → Type 0
 Canonical d = ((d .m ≡ pos 0) × (d .e ≡ pos 0)) ⊎ (natAbs (d .m) % 10 ≡ 0 → ⊥)
 
--- a number that is zero or no multiple of ten; a list of digits
+-- a number that is zero or no multiple of ten
 abbrev Trim : ℕ → Type 0
 Trim m = (m ≡ 0) ⊎ (m % 10 ≡ 0 → ⊥)
 
-abbrev Small : List ℕ → Type 0
-Small [] = Unit {0}
-Small (d ∷ ds) = (d < 10) × Small ds
+-- a list of digits' values
+abbrev pub Below10 : List ℕ → Type 0
+Below10 [] = Unit {0}
+Below10 (d ∷ ds) = (d < 10) × Below10 ds
 
 -- the bounds of a digit
 digit-bounds : (b : ℕ) (x y : Bool) → leb 48 b ≡ x → leb b 57 ≡ y → x && y ≡ true → (48 ≤ b) × (b - 48 < 10)
@@ -61,16 +62,16 @@ module _ (b : ℕ) (e : true ≡ isDigit b) where
   unfolding isDigit
   digit-high = digit-bounds b (leb 48 b) (leb b 57) refl refl (sym e) .1
 
-small : (s : List ℕ) → Small (digits s)
+small : (s : List ℕ) → Below10 (digits s)
 unfolding digits
 small [] = tt
 small (b ∷ s) = by-test (isDigit b) refl (small s)
   where
-    by-test : (y : Bool) → isDigit b ≡ y → Small (digits s) → Small (cond y ((b - 48) ∷ []) [] ++ digits s)
+    by-test : (y : Bool) → isDigit b ≡ y → Below10 (digits s) → Below10 (cond y ((b - 48) ∷ []) [] ++ digits s)
     by-test true e h = (digit-high b (sym e), h)
     by-test false e h = h
 
-trim : (t : Trimmed) (ds : List ℕ) → Trim (t .m) → Small ds → Trim (trimmed t ds .m)
+trim : (t : Trimmed) (ds : List ℕ) → Trim (t .m) → Below10 ds → Trim (trimmed t ds .m)
 unfolding trimmed
 trim t [] h l = h
 trim t (zero ∷ ds) h l = trim (more t zero) ds h (l .1)
@@ -115,13 +116,29 @@ module _ (test : ℕ → Bool) (b : ℕ) (s : List ℕ) where
   unfolding after
   after-yes e = ap (λ t. elim t [ true ↦ s | false ↦ after test s ]) e
 
--- what a test that no byte passes leaves
-record Lacks (test : ℕ → Bool) (s : List ℕ) : Type 0 where
-  all : before test s ≡ s
-  rest : after test s ≡ []
+-- no byte of a list passes a test
+pub data Lacks (test : ℕ → Bool) : List ℕ → Type 0 where
+  lacks-nil : Lacks test []
+  lacks-more : {b : ℕ} {l : List ℕ} → test b ≡ false → Lacks test l → Lacks test (b ∷ l)
 
-lacks-more : (test : ℕ → Bool) (b : ℕ) (s : List ℕ) → test b ≡ false → Lacks test s → Lacks test (b ∷ s)
-lacks-more test b s e h = record { all = before-no test b s e ∙ ap (λ l. b ∷ l) (h .all); rest = after-no test b s e ∙ h .rest }
+module _ {test : ℕ → Bool} where
+  -- the first byte that passes stands behind them
+  pub before-past : {l : List ℕ} → Lacks test l → (s : List ℕ) → before test (l ++ s) ≡ l ++ before test s
+  before-past lacks-nil s = refl
+  before-past (lacks-more {b} e h) s = before-no test _ _ e ∙ ap (λ t. b ∷ t) (before-past h s)
+
+  pub after-past : {l : List ℕ} → Lacks test l → (s : List ℕ) → after test (l ++ s) ≡ after test s
+  after-past lacks-nil s = refl
+  after-past (lacks-more e h) s = after-no test _ _ e ∙ after-past h s
+
+  -- if none passes, all bytes are before it and none after
+  before-all : {l : List ℕ} → Lacks test l → before test l ≡ l
+  unfolding before
+  before-all {l} h = rw (append-nil l) at (before-past h [])
+
+  after-all : {l : List ℕ} → Lacks test l → after test l ≡ []
+  unfolding after
+  after-all {l} h = rw (append-nil l) at (after-past h [])
 
 -- a byte of an integer is neither a point nor a letter
 clear : (p l i : Bool) → not (p || l) && i ≡ true → (p ≡ false) × (l ≡ false) × (i ≡ true)
@@ -130,12 +147,9 @@ clear false true i e = clash cc
 clear true l i e = clash cc
 
 plain : (raw : List ℕ) → isInteger raw ≡ true → Lacks isPoint raw × Lacks isLetter raw
-unfolding isInteger before after
-plain [] e = (record { all = refl; rest = refl }, record { all = refl; rest = refl })
-plain (b ∷ s) e =
-    let c = clear (isPoint b) (isLetter b) (isInteger s) e in
-    let h = plain s (c .2) in
-    (lacks-more isPoint b s (c .0) (h .0), lacks-more isLetter b s (c .1) (h .1))
+unfolding isInteger
+plain [] e = (lacks-nil, lacks-nil)
+plain (b ∷ s) e = let c = clear (isPoint b) (isLetter b) (isInteger s) e in let h = plain s (c .2) in (lacks-more (c .0) (h .0), lacks-more (c .1) (h .1))
 
 -- zero has no sign
 pub zero-signed : (neg : Bool) → pos 0 ≡ signed neg 0
@@ -163,7 +177,7 @@ pub whole : (raw : List ℕ) → isInteger raw ≡ true → wholeOf (decimal raw
 unfolding decimal integer
 whole raw e =
     let h = plain raw e in
-    ap wholeOf (parts raw (h .1 .all) (h .1 .rest) (h .0 .rest)) ∙ whole-scaled (negative raw) (trimmed none-yet (digits raw)) ∙ ap (signed (negative raw)) (sym (meaning (digits raw)))
+    ap wholeOf (parts raw (before-all (h .1)) (after-all (h .1)) (after-all (h .0))) ∙ whole-scaled (negative raw) (trimmed none-yet (digits raw)) ∙ ap (signed (negative raw)) (sym (meaning (digits raw)))
   where
     parts : (raw : List ℕ) → before isLetter raw ≡ raw → after isLetter raw ≡ [] → after isPoint raw ≡ [] → decimal raw ≡ scaled (negative raw) (trimmed none-yet (digits raw)) (pos 0)
     parts raw b a p = rw (b, a, p)

@@ -12,7 +12,8 @@ use lib.IntN.{ℤ, pos, negsuc, _-ℤ_}
 use borrow.Author.Tests.{le-leb, ne-eqb}
 use Rattle.utf8.specs.Ascii.{ascii, isDigit}
 use Rattle.numerals.specs.Numerals.{Decimal, before, after, isPoint, isLetter, digits, natural, negative, signed, integer, mantissa, places, exponent}
-use Rattle.numerals.specs.Laws.{before-no, after-no}
+use Rattle.numerals.specs.Laws.{Below10, Lacks, before-past, after-past}
+use Rattle.numerals.specs.Laws.Lacks.{lacks-nil, lacks-more}
 use Rattle.numerals.specs.Values.{asWritten}
 
 -- one digit or more, each as its value
@@ -84,9 +85,9 @@ isMinus minus = true
 isMinus plus = false
 isMinus no-sign = false
 
-abbrev pub powerOf : Exponent → ℤ
-powerOf no-exponent = pos 0
-powerOf (power capital s d) = signed (isMinus s) (natural 0 (valuesOf d))
+abbrev pub exponentValue : Exponent → ℤ
+exponentValue no-exponent = pos 0
+exponentValue (power capital s d) = signed (isMinus s) (natural 0 (valuesOf d))
 
 -- all digits before the exponent as one number, times ten to the exponent less the digits after the point
 unfoldable pub worth : Parts → Decimal
@@ -94,14 +95,10 @@ unfolding natural signed
 worth p =
     record {
       m = signed (p .negative) (natural 0 (valuesOf (p .int) ++ fractionValues (p .frac)));
-      e = powerOf (p .exp) -ℤ pos (length (fractionValues (p .frac)));
+      e = exponentValue (p .exp) -ℤ pos (length (fractionValues (p .frac)));
     }
 
 -- the digits are digits
-abbrev pub Below10 : List ℕ → Type 0
-Below10 [] = Unit {0}
-Below10 (v ∷ l) = (v < 10) × Below10 l
-
 abbrev pub ExponentDigits : Exponent → Type 0
 ExponentDigits no-exponent = Unit {0}
 ExponentDigits (power capital s d) = Below10 (valuesOf d)
@@ -113,38 +110,24 @@ pub record Sound (p : Parts) : Type 0 where
 
 -- ---- the bytes write the value
 
--- no byte of a list passes a test
-data None (test : ℕ → Bool) : List ℕ → Type 0 where
-  none : None test []
-  more : {b : ℕ} {l : List ℕ} → test b ≡ false → None test l → None test (b ∷ l)
-
--- no digit does
+-- no digit passes a test
 abbrev NoDigit : (ℕ → Bool) → Type 0
 NoDigit test = (v : ℕ) → v < 10 → test (48 + v) ≡ false
 
 module _ {test : ℕ → Bool} where
-  none-++ : {l s : List ℕ} → None test l → None test s → None test (l ++ s)
-  none-++ none k = k
-  none-++ (more e h) k = more e (none-++ h k)
-
-  -- the first byte that passes stands behind them
-  before-past : {l : List ℕ} → None test l → (s : List ℕ) → before test (l ++ s) ≡ l ++ before test s
-  before-past none s = refl
-  before-past (more {b} e h) s = before-no test _ _ e ∙ ap (λ t. b ∷ t) (before-past h s)
-
-  after-past : {l : List ℕ} → None test l → (s : List ℕ) → after test (l ++ s) ≡ after test s
-  after-past none s = refl
-  after-past (more e h) s = after-no test _ _ e ∙ after-past h s
+  lacks-++ : {l s : List ℕ} → Lacks test l → Lacks test s → Lacks test (l ++ s)
+  lacks-++ lacks-nil k = k
+  lacks-++ (lacks-more e h) k = lacks-more e (lacks-++ h k)
 
   -- digits, and a minus sign before them, for a test that passes neither
-  none-digits : NoDigit test → (l : List ℕ) → Below10 l → None test (map (λ v. 48 + v) l)
-  none-digits k [] h = none
-  none-digits k (v ∷ l) h = more (k v (h .0)) (none-digits k l (h .1))
+  lacks-digits : NoDigit test → (l : List ℕ) → Below10 l → Lacks test (map (λ v. 48 + v) l)
+  lacks-digits k [] h = lacks-nil
+  lacks-digits k (v ∷ l) h = lacks-more (k v (h .0)) (lacks-digits k l (h .1))
 
-  none-whole : test 45 ≡ false → NoDigit test → (n : Bool) (d : Digits) → Below10 (valuesOf d) → None test (minusBytes n ++ digitBytes d)
+  lacks-whole : test 45 ≡ false → NoDigit test → (n : Bool) (d : Digits) → Below10 (valuesOf d) → Lacks test (minusBytes n ++ digitBytes d)
   unfolding minusBytes digitBytes
-  none-whole e k true d h = more e (none-digits k (valuesOf d) h)
-  none-whole e k false d h = none-digits k (valuesOf d) h
+  lacks-whole e k true d h = lacks-more e (lacks-digits k (valuesOf d) h)
+  lacks-whole e k false d h = lacks-digits k (valuesOf d) h
 
 -- a digit is no minus sign, no point and no letter
 not-minus : (v : ℕ) → eqb (48 + v) 45 ≡ false
@@ -158,10 +141,10 @@ not-letter : NoDigit isLetter
 unfolding isLetter
 not-letter v h = rw (ne-eqb (48 + v) 101 (λ e. omega arith), ne-eqb (48 + v) 69 (λ e. omega arith))
 
-none-fraction : (f : Fraction) → Below10 (fractionValues f) → None isLetter (fractionBytes f)
+lacks-fraction : (f : Fraction) → Below10 (fractionValues f) → Lacks isLetter (fractionBytes f)
 unfolding fractionBytes isLetter
-none-fraction no-fraction h = none
-none-fraction (point d) h = more refl (none-digits not-letter (valuesOf d) h)
+lacks-fraction no-fraction h = lacks-nil
+lacks-fraction (point d) h = lacks-more refl (lacks-digits not-letter (valuesOf d) h)
 
 -- the digits among the bytes of each part
 digits-++ : (a b : List ℕ) → digits (a ++ b) ≡ digits a ++ digits b
@@ -209,7 +192,7 @@ integer-sign minus d h = ap (λ l. signed true (natural 0 l)) (digits-map (value
 integer-sign plus d h = ap (λ l. signed false (natural 0 l)) (digits-map (valuesOf d) h)
 integer-sign no-sign d h = rw (not-minus (d .first)) (ap (λ l. signed false (natural 0 l)) (digits-map (valuesOf d) h))
 
-exponent-alone : (x : Exponent) → ExponentDigits x → exponent (exponentBytes x) ≡ powerOf x
+exponent-alone : (x : Exponent) → ExponentDigits x → exponent (exponentBytes x) ≡ exponentValue x
 unfolding exponent integer exponentBytes
 exponent-alone no-exponent h = refl
 exponent-alone (power true s d) h = integer-sign s d h
@@ -217,9 +200,9 @@ exponent-alone (power false s d) h = integer-sign s d h
 
 -- the parts of the bytes, as `Numerals` finds them
 module _ (p : Parts) (h : Sound p) where
-  no-letter : None isLetter (minusBytes (p .negative) ++ digitBytes (p .int) ++ fractionBytes (p .frac))
+  no-letter : Lacks isLetter (minusBytes (p .negative) ++ digitBytes (p .int) ++ fractionBytes (p .frac))
   unfolding isLetter
-  no-letter = none-++ (none-whole refl not-letter (p .negative) (p .int) (h .int)) (none-fraction (p .frac) (h .frac))
+  no-letter = lacks-++ (lacks-whole refl not-letter (p .negative) (p .int) (h .int)) (lacks-fraction (p .frac) (h .frac))
 
   mantissa-is : mantissa (bytesOf p) ≡ minusBytes (p .negative) ++ digitBytes (p .int) ++ fractionBytes (p .frac)
   unfolding mantissa bytesOf
@@ -232,10 +215,10 @@ module _ (p : Parts) (h : Sound p) where
   unfolding places isPoint
   places-are =
       ap (λ l. length (digits (after isPoint l))) mantissa-is
-      ∙ ap (λ l. length (digits l)) (after-past (none-whole refl not-point (p .negative) (p .int) (h .int)) (fractionBytes (p .frac)))
+      ∙ ap (λ l. length (digits l)) (after-past (lacks-whole refl not-point (p .negative) (p .int) (h .int)) (fractionBytes (p .frac)))
       ∙ ap length (digits-point (p .frac) (h .frac))
 
-  exponent-is : exponent (bytesOf p) ≡ powerOf (p .exp)
+  exponent-is : exponent (bytesOf p) ≡ exponentValue (p .exp)
   unfolding exponent integer bytesOf
   exponent-is = ap integer (after-past no-letter (exponentBytes (p .exp))) ∙ exponent-alone (p .exp) (h .exp)
 

@@ -208,7 +208,8 @@ pub pair-exactly : (raw : List ℕ) (d : Decimal) → (pairOf raw ≡ some d) �
 unfolding pairOf
 pair-exactly raw d = ((λ e. to (inRange (decimal raw)) refl e), from)
   where
-    to : (b : Bool) → inRange (decimal raw) ≡ b → cond b (some (decimal raw)) none ≡ some d → Canonical d × (inRange d ≡ true) × SameValue (asWritten raw) d
+    to : (b : Bool) → inRange (decimal raw) ≡ b → cond b (some (decimal raw)) none ≡ some d
+        → Canonical d × (inRange d ≡ true) × SameValue (asWritten raw) d
     to true q e = let z : decimal raw ≡ d = cc in rw (← z) (canonical raw, q, has-value raw)
     to false q e = clash cc
 

@@ -1,4 +1,5 @@
-// Writes the records of an accepted text's sheet from its node table. If they do not fit, a part of them may be written, and the cursor is then past the sheet.
+// Writes the records of an accepted text's sheet from its node table.
+// If they do not fit, a part of them may be written, and the cursor is then past the sheet.
 // Each function takes the cursor at which it is to write and gives the one after.
 use fields::Index;
 use nodes::Found;

@@ -83,7 +83,8 @@ pub eighteen : (x : List ℕ) (r : ℕ) → (answer x r ≡ refused 18 0) ↔ ((
 eighteen x r = (too-long x r, (λ ((n, e), h). does-not-fit x r n e h))
 
 -- demand 2 for lay: a text is laid exactly if it breaks no rule and its sheet fits, and the answer is the sheet's length and the object count
-pub laid-exactly : (x : List ℕ) (r l n : ℕ) → (answer x r ≡ laid l n) ↔ (BreaksNone x × (l ≡ length (sheetOfText x)) × (l ≤ r) × (n ≡ length (modelOfText x .objects)))
+pub laid-exactly : (x : List ℕ) (r l n : ℕ)
+    → (answer x r ≡ laid l n) ↔ (BreaksNone x × (l ≡ length (sheetOfText x)) × (l ≤ r) × (n ≡ length (modelOfText x .objects)))
 unfolding answer fitted
 laid-exactly x r l n = (
   (λ e. let (s, h, _, c) = sizes x r l n e in (accepted-exactly x n .0 (of-laid x r l n e .accepted) .0, s, h, c)),

@@ -218,11 +218,11 @@ module _ (x : List ℕ) (h : length x ≤ 65535) (w : length x ≤ wholeLength x
 -- the verdict that a least fault gives
 given-case : {x : List ℕ} (n f : ℕ) → (f < noFault → Least x (ruleOf f) (placeIn f)) → (noFault ≤ f → Clean x n) → Case x (given n f)
 unfolding given
-given-case {x} n f least none = by (decLt f noFault)
+given-case {x} n f low kept = by (decLt f noFault)
   where
     by : Dec (f < noFault) → Case x (cond (ltb f noFault) (refused (ruleOf f) (placeIn f)) (accepted n))
-    by (yes k) = rw (lt-ltb f noFault k) (broken (least k))
-    by (no k) = rw (le-ltb f noFault (omega arith)) (clean (none (omega arith)))
+    by (yes k) = rw (lt-ltb f noFault k) (broken (low k))
+    by (no k) = rw (le-ltb f noFault (omega arith)) (clean (kept (omega arith)))
 
 -- the tree's verdict
 of-tree : (x : List ℕ) (v : Json) → length x ≤ 65535 → length x ≤ wholeLength x → read x ≡ reads v → Case x (judged v)

@@ -1,4 +1,5 @@
--- Verdicts by computation: the sample reading of document 01 that has no star, two texts that are accepted, and two that rules 3 and 4 refuse. The starred readings are in `sheets`.
+-- Verdicts by computation: the sample reading of document 01 that has no star, two texts that are accepted, and two that rules 3 and 4 refuse.
+-- The starred readings are in `sheets`.
 use Prim.Native.Nat.{ℕ}
 use mathlib.Core.Path.{_≡_, refl}
 use mathlib.Core.List.{List, [], _++_}

@@ -1,4 +1,5 @@
--- What a writer tells of a lent sheet. A place in the sheet is a cursor, which may lie past the sheet's end: what does not fit is counted, and lay clears the sheet then.
+-- What a writer tells of a lent sheet. A place in the sheet is a cursor, which may lie past the sheet's end:
+-- what does not fit is counted, and lay clears the sheet then.
 use mathlib.Core.Path.{_≡_}
 use mathlib.Core.List.{List}
 use Prim.Native.Nat.{ℕ, _+_, _-_, _^_, _≤_, _<_, min}
