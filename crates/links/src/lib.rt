@@ -465,7 +465,7 @@ fn is_second_level(text: &[u8], table: &[u32], found: Found) -> bool
     }
     let from = fields::text_from(text, table, k);
     let to = fields::text_to(text, table, k);
-    if !words::may_be_second_level(text, from, to) {
+    if !types::may_be_second_level(text, from, to) {
         return false;
     }
     words::object_code(text, from, to) >= 17

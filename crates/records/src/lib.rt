@@ -71,7 +71,7 @@ fn surface_type(text: &[u8], from: usize, to: usize, sheet: &mut [u8], at: usize
     requires { ⌜ Span (now text) from to ⌝ }
     ensures { λ r. ⌜ Writes (laySurface (surfaceNamed (decodeAt (now (text .entry)) from to))) (now (sheet .entry)) (now (sheet .exit)) at r ⌝ }
 {
-    if words::is_added(text, from, to) {
+    if types::is_added(text, from, to) {
         let name = writer::put2(sheet, at, 19);
         return writer::string(text, from, to, sheet, name);
     }
@@ -117,7 +117,7 @@ fn values(text: &[u8], table: &[u32], i: usize, code: usize, sheet: &mut [u8], a
     ensures { λ r. ⌜ Wrote (valuesBytes code) (now (text .entry)) (now (table .entry)) i (now (sheet .entry)) (now (sheet .exit)) at r ⌝ }
 {
     let body = writer::skip(at, 6);
-    let end = arrays::values(text, table, i, words::values_depth_of(code), sheet, body);
+    let end = arrays::values(text, table, i, types::values_depth_of(code), sheet, body);
     writer::close(sheet, at, body, end, 8);
     end
 }
@@ -156,7 +156,7 @@ fn shape(text: &[u8], table: &[u32], i: usize, code: usize, sheet: &mut [u8], at
     let body = writer::skip(at, 6);
     let first = writer::put2(sheet, body, code as u64);
     let second = writer::put2(sheet, first, lod_code(text, lod.from, lod.to));
-    let end = arrays::boundary(text, table, k, words::depth_of(code), sheet, second);
+    let end = arrays::boundary(text, table, k, types::depth_of(code), sheet, second);
     writer::close(sheet, at, body, end, 6);
     end
 }

@@ -52,7 +52,7 @@ fn object_type(text: &[u8], table: &[u32], found: Found, code: usize, best: u32)
     if code != 0 {
         return best;
     }
-    if words::is_added(
+    if types::is_added(
         text,
         fields::text_from(text, table, k),
         fields::text_to(text, table, k),
@@ -81,7 +81,7 @@ fn geometry_type(
         return shapes::string(text, table, k, best);
     }
     if code != 0 {
-        return shapes::unless(words::permitted(object, code), 14, text, table, k, best);
+        return shapes::unless(types::permitted(object, code), 14, text, table, k, best);
     }
     if fields::is_word(text, table, k, b"GeometryInstance") {
         return shapes::unless(false, 11, text, table, k, best);
@@ -101,7 +101,7 @@ fn lod(text: &[u8], table: &[u32], found: Found, best: u32) -> u32
         return shapes::string(text, table, k, best);
     }
     shapes::unless(
-        words::is_lod(
+        types::is_lod(
             text,
             fields::text_from(text, table, k),
             fields::text_to(text, table, k),
@@ -131,7 +131,7 @@ fn surface_type(text: &[u8], table: &[u32], found: Found, best: u32) -> u32
         return best;
     }
     shapes::unless(
-        words::is_added_name(text, from, to),
+        types::is_added_name(text, from, to),
         10,
         text,
         table,
@@ -180,7 +180,7 @@ fn is_shaped(text: &[u8], table: &[u32], i: usize, code: usize, sound: bool) -> 
     if sound {
         return true;
     }
-    shapes::shaped(text, table, i, words::depth_of(code), NO_FAULT) == NO_FAULT
+    shapes::shaped(text, table, i, types::depth_of(code), NO_FAULT) == NO_FAULT
 }
 
 // Rule 12 of `values` over a boundary, which is judged only if the boundary is well shaped, and rule 13 of its integers.
@@ -203,11 +203,11 @@ fn over_boundary(
     if code == 0 {
         return best;
     }
-    let range = shapes::ranged(text, table, v, words::values_depth_of(code), surfaces, best);
+    let range = shapes::ranged(text, table, v, types::values_depth_of(code), surfaces, best);
     if !is_shaped(text, table, b, code, sound) {
         return range;
     }
-    shapes::matches(text, table, b, v, words::values_depth_of(code), range)
+    shapes::matches(text, table, b, v, types::values_depth_of(code), range)
 }
 
 // The values of a geometry's semantics.
@@ -284,7 +284,7 @@ fn boundary(
     if code == 0 {
         return kind;
     }
-    shapes::boundary(text, table, k, words::depth_of(code), vertices, kind)
+    shapes::boundary(text, table, k, types::depth_of(code), vertices, kind)
 }
 
 // Rule 8 of `lod`, which a geometry needs unless its type is `GeometryInstance`.

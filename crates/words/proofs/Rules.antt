@@ -2,10 +2,5 @@
 use borrow.Author.Needs.{needs}
 use Rattle.words.proofs.Scan.{scan-start, scan-end, scan-low, scan-high, scan-found, scan-more}
 use Rattle.words.proofs.Guess.{guess-right}
-use Rattle.words.proofs.Looks.{looks-short, looks-b, looks-t, looks-escape, looks-other}
-use Rattle.strings.specs.Laws.{step-span}
-use Rattle.json.specs.Laws.{under-digit}
-use Rattle.words.proofs.Steps.{digit-from, added-none, added-byte, name-no-plus, name-plus, no-lod-empty, no-lod-first, is-lod-one, no-lod-point, no-lod-short, no-lod-second, is-lod-both, no-lod-long}
-use Rattle.words.proofs.Rows.{depth-past, values-depth-past, permitted-past, permitted-other, permitted-at}
 
-pub ruleset words = (needs, scan-start, scan-end, scan-low, scan-high, scan-found, scan-more, guess-right, looks-short, looks-b, looks-t, looks-escape, looks-other, under-digit, digit-from, step-span, added-none, added-byte, name-no-plus, name-plus, no-lod-empty, no-lod-first, is-lod-one, no-lod-point, no-lod-short, no-lod-second, is-lod-both, no-lod-long, depth-past, values-depth-past, permitted-past, permitted-other, permitted-at)
+pub ruleset words = (needs, scan-start, scan-end, scan-low, scan-high, scan-found, scan-more, guess-right)
