@@ -63,8 +63,8 @@ fn repeats(text: &[u8], table: &[u32], first: usize, k: usize) -> bool
     while j < k {
         let from2 = nodes::start(table, j);
         let to2 = nodes::end(table, j);
-        if !strings::apart(text, from2 + 1, to2 - 1, from + 1, to - 1) {
-            if strings::same_string(text, from2 + 1, to2 - 1, from + 1, to - 1) {
+        if !compare::apart(text, from2 + 1, to2 - 1, from + 1, to - 1) {
+            if compare::same_string(text, from2 + 1, to2 - 1, from + 1, to - 1) {
                 return true;
             }
         }
@@ -172,7 +172,7 @@ fn in_chain(text: &[u8], table: &[u32], links: &[u32; 32784], head: usize, k: us
     while e != 0 {
         let from2 = nodes::start(table, e);
         let to2 = nodes::end(table, e);
-        if strings::same_string(text, from2 + 1, to2 - 1, from + 1, to - 1) {
+        if compare::same_string(text, from2 + 1, to2 - 1, from + 1, to - 1) {
             return true;
         }
         e = link(links, e);

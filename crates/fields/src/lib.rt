@@ -68,7 +68,7 @@ pub fn is_word(text: &[u8], table: &[u32], i: usize, word: &[u8]) -> bool
     if !nodes::is_string(text, table, i) {
         return false;
     }
-    strings::is_word(
+    compare::is_word(
         text,
         text_from(text, table, i),
         text_to(text, table, i),

@@ -16,7 +16,7 @@ fn same(text: &[u8], table: &[u32], i: usize, j: usize) -> bool
     let to = nodes::end(table, i);
     let from2 = nodes::start(table, j);
     let to2 = nodes::end(table, j);
-    strings::same_string(text, from + 1, to - 1, from2 + 1, to2 - 1)
+    compare::same_string(text, from + 1, to - 1, from2 + 1, to2 - 1)
 }
 
 // One more than an object's number, or 0, as a number of full width.

@@ -123,7 +123,7 @@ pub fn member(text: &[u8], table: &[u32], i: usize, name: &[u8]) -> Found
     while key < n {
         let from = start(table, key);
         let to = end(table, key);
-        if strings::is_word(text, from + 1, to - 1, name) {
+        if compare::is_word(text, from + 1, to - 1, name) {
             return Found::At(key + 3);
         }
         key = next(table, key + 3);

@@ -1,12 +1,12 @@
 -- What the inner functions tell: of the escape at an offset, and of the bytes of a character.
-use Prim.Native.Nat.{ℕ, _+_, _-_, _*_, _≤_, _<_}
+use Prim.Native.Nat.{ℕ, _+_, _*_, _≤_, _<_}
 use mathlib.Core.Path.{_≡_}
-use mathlib.Core.Bool.{Bool, true, false}
+use mathlib.Core.Bool.{Bool, false}
 use mathlib.Core.List.{List, [], _∷_, _++_}
-use lib.ListN.{length, getD}
+use lib.ListN.{getD}
 use lib.Seq.{slice}
 use Rattle.utf8.specs.Bytes.{le}
-use Rattle.utf8.specs.Utf8.{encode, same}
+use Rattle.utf8.specs.Utf8.{encode}
 use Rattle.strings.specs.Strings.{Piece, byte, unit, plain, pieces, hexValue, isLow, alone}
 use Rattle.strings.specs.Spans.{decodeAt, unpairedAt}
 use Rattle.strings.specs.declared.Cursor.{Cursor}
@@ -82,13 +82,3 @@ pub record IsSpread (u at end b : ℕ) (d : Cursor) : Type 0 where
 unfoldable pub Spreads : ℕ → ℕ → ℕ → Step → Type 0
 Spreads u at end (Byte b d) = IsSpread u at end b d
 Spreads u at end Done = ⊥
-
--- a look at as many bytes as the word w has tells that they stand for w, or nothing
-unfoldable pub Spelled : List ℕ → ℕ → List ℕ → Bool → Type 0
-Spelled x at w true = true ≡ same w (decodeAt x at (at + length w))
-Spelled x at w false = Unit
-
--- a look at two strings of one length tells that they stand for the same bytes, or nothing
-unfoldable pub LooksSame : List ℕ → ℕ → ℕ → ℕ → Bool → Type 0
-LooksSame x at end at2 true = true ≡ same (decodeAt x at end) (decodeAt x at2 (at2 + (end - at)))
-LooksSame x at end at2 false = Unit

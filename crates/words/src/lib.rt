@@ -23,7 +23,7 @@ fn code_in(text: &[u8], at: usize, end: usize, words: &[u8], ends: &[u16]) -> us
     let mut k = 0;
     while k < ends.len() {
         let to = wide(ends[k]);
-        if strings::is_word(text, at, end, &words[from..to]) {
+        if compare::is_word(text, at, end, &words[from..to]) {
             return k + 1;
         }
         from = to;
@@ -96,11 +96,11 @@ fn is_object_0_to_4(text: &[u8], at: usize, end: usize, i: usize) -> bool
     ensures { λ r. ⌜ (r ≡ true → codeOf objectWords (decodeAt (now (text .entry)) at end) ≡ i + 1) ⌝ }
 {
     match i {
-        0 => strings::is_word(text, at, end, b"Bridge"),
-        1 => strings::is_word(text, at, end, b"Building"),
-        2 => strings::is_word(text, at, end, b"CityFurniture"),
-        3 => strings::is_word(text, at, end, b"CityObjectGroup"),
-        4 => strings::is_word(text, at, end, b"GenericCityObject"),
+        0 => compare::is_word(text, at, end, b"Bridge"),
+        1 => compare::is_word(text, at, end, b"Building"),
+        2 => compare::is_word(text, at, end, b"CityFurniture"),
+        3 => compare::is_word(text, at, end, b"CityObjectGroup"),
+        4 => compare::is_word(text, at, end, b"GenericCityObject"),
         _ => false,
     }
 }
@@ -111,12 +111,12 @@ fn is_object_5_to_10(text: &[u8], at: usize, end: usize, i: usize) -> bool
     ensures { λ r. ⌜ (r ≡ true → codeOf objectWords (decodeAt (now (text .entry)) at end) ≡ i + 1) ⌝ }
 {
     match i {
-        5 => strings::is_word(text, at, end, b"LandUse"),
-        6 => strings::is_word(text, at, end, b"OtherConstruction"),
-        7 => strings::is_word(text, at, end, b"PlantCover"),
-        8 => strings::is_word(text, at, end, b"Railway"),
-        9 => strings::is_word(text, at, end, b"Road"),
-        10 => strings::is_word(text, at, end, b"SolitaryVegetationObject"),
+        5 => compare::is_word(text, at, end, b"LandUse"),
+        6 => compare::is_word(text, at, end, b"OtherConstruction"),
+        7 => compare::is_word(text, at, end, b"PlantCover"),
+        8 => compare::is_word(text, at, end, b"Railway"),
+        9 => compare::is_word(text, at, end, b"Road"),
+        10 => compare::is_word(text, at, end, b"SolitaryVegetationObject"),
         _ => false,
     }
 }
@@ -127,11 +127,11 @@ fn is_object_11_to_15(text: &[u8], at: usize, end: usize, i: usize) -> bool
     ensures { λ r. ⌜ (r ≡ true → codeOf objectWords (decodeAt (now (text .entry)) at end) ≡ i + 1) ⌝ }
 {
     match i {
-        11 => strings::is_word(text, at, end, b"TINRelief"),
-        12 => strings::is_word(text, at, end, b"TransportSquare"),
-        13 => strings::is_word(text, at, end, b"Tunnel"),
-        14 => strings::is_word(text, at, end, b"WaterBody"),
-        15 => strings::is_word(text, at, end, b"Waterway"),
+        11 => compare::is_word(text, at, end, b"TINRelief"),
+        12 => compare::is_word(text, at, end, b"TransportSquare"),
+        13 => compare::is_word(text, at, end, b"Tunnel"),
+        14 => compare::is_word(text, at, end, b"WaterBody"),
+        15 => compare::is_word(text, at, end, b"Waterway"),
         _ => false,
     }
 }
@@ -142,11 +142,11 @@ fn is_of_bridge(text: &[u8], at: usize, end: usize, i: usize) -> bool
     ensures { λ r. ⌜ (r ≡ true → codeOf objectWords (decodeAt (now (text .entry)) at end) ≡ i + 1) ⌝ }
 {
     match i {
-        16 => strings::is_word(text, at, end, b"BridgePart"),
-        17 => strings::is_word(text, at, end, b"BridgeInstallation"),
-        18 => strings::is_word(text, at, end, b"BridgeConstructiveElement"),
-        19 => strings::is_word(text, at, end, b"BridgeRoom"),
-        20 => strings::is_word(text, at, end, b"BridgeFurniture"),
+        16 => compare::is_word(text, at, end, b"BridgePart"),
+        17 => compare::is_word(text, at, end, b"BridgeInstallation"),
+        18 => compare::is_word(text, at, end, b"BridgeConstructiveElement"),
+        19 => compare::is_word(text, at, end, b"BridgeRoom"),
+        20 => compare::is_word(text, at, end, b"BridgeFurniture"),
         _ => false,
     }
 }
@@ -157,13 +157,13 @@ fn is_of_building(text: &[u8], at: usize, end: usize, i: usize) -> bool
     ensures { λ r. ⌜ (r ≡ true → codeOf objectWords (decodeAt (now (text .entry)) at end) ≡ i + 1) ⌝ }
 {
     match i {
-        21 => strings::is_word(text, at, end, b"BuildingPart"),
-        22 => strings::is_word(text, at, end, b"BuildingInstallation"),
-        23 => strings::is_word(text, at, end, b"BuildingConstructiveElement"),
-        24 => strings::is_word(text, at, end, b"BuildingFurniture"),
-        25 => strings::is_word(text, at, end, b"BuildingStorey"),
-        26 => strings::is_word(text, at, end, b"BuildingRoom"),
-        27 => strings::is_word(text, at, end, b"BuildingUnit"),
+        21 => compare::is_word(text, at, end, b"BuildingPart"),
+        22 => compare::is_word(text, at, end, b"BuildingInstallation"),
+        23 => compare::is_word(text, at, end, b"BuildingConstructiveElement"),
+        24 => compare::is_word(text, at, end, b"BuildingFurniture"),
+        25 => compare::is_word(text, at, end, b"BuildingStorey"),
+        26 => compare::is_word(text, at, end, b"BuildingRoom"),
+        27 => compare::is_word(text, at, end, b"BuildingUnit"),
         _ => false,
     }
 }
@@ -174,11 +174,11 @@ fn is_of_tunnel(text: &[u8], at: usize, end: usize, i: usize) -> bool
     ensures { λ r. ⌜ (r ≡ true → codeOf objectWords (decodeAt (now (text .entry)) at end) ≡ i + 1) ⌝ }
 {
     match i {
-        28 => strings::is_word(text, at, end, b"TunnelPart"),
-        29 => strings::is_word(text, at, end, b"TunnelInstallation"),
-        30 => strings::is_word(text, at, end, b"TunnelConstructiveElement"),
-        31 => strings::is_word(text, at, end, b"TunnelHollowSpace"),
-        32 => strings::is_word(text, at, end, b"TunnelFurniture"),
+        28 => compare::is_word(text, at, end, b"TunnelPart"),
+        29 => compare::is_word(text, at, end, b"TunnelInstallation"),
+        30 => compare::is_word(text, at, end, b"TunnelConstructiveElement"),
+        31 => compare::is_word(text, at, end, b"TunnelHollowSpace"),
+        32 => compare::is_word(text, at, end, b"TunnelFurniture"),
         _ => false,
     }
 }
@@ -280,13 +280,13 @@ fn is_geometry_at(text: &[u8], at: usize, end: usize, i: usize) -> bool
     ensures { λ r. ⌜ (r ≡ true → codeOf geometryWords (decodeAt (now (text .entry)) at end) ≡ i + 1) ⌝ }
 {
     match i {
-        0 => strings::is_word(text, at, end, b"MultiPoint"),
-        1 => strings::is_word(text, at, end, b"MultiLineString"),
-        2 => strings::is_word(text, at, end, b"MultiSurface"),
-        3 => strings::is_word(text, at, end, b"CompositeSurface"),
-        4 => strings::is_word(text, at, end, b"Solid"),
-        5 => strings::is_word(text, at, end, b"MultiSolid"),
-        6 => strings::is_word(text, at, end, b"CompositeSolid"),
+        0 => compare::is_word(text, at, end, b"MultiPoint"),
+        1 => compare::is_word(text, at, end, b"MultiLineString"),
+        2 => compare::is_word(text, at, end, b"MultiSurface"),
+        3 => compare::is_word(text, at, end, b"CompositeSurface"),
+        4 => compare::is_word(text, at, end, b"Solid"),
+        5 => compare::is_word(text, at, end, b"MultiSolid"),
+        6 => compare::is_word(text, at, end, b"CompositeSolid"),
         _ => false,
     }
 }
@@ -349,12 +349,12 @@ fn is_surface_0_to_5(text: &[u8], at: usize, end: usize, i: usize) -> bool
     ensures { λ r. ⌜ (r ≡ true → codeOf surfaceWords (decodeAt (now (text .entry)) at end) ≡ i + 1) ⌝ }
 {
     match i {
-        0 => strings::is_word(text, at, end, b"RoofSurface"),
-        1 => strings::is_word(text, at, end, b"GroundSurface"),
-        2 => strings::is_word(text, at, end, b"WallSurface"),
-        3 => strings::is_word(text, at, end, b"ClosureSurface"),
-        4 => strings::is_word(text, at, end, b"OuterCeilingSurface"),
-        5 => strings::is_word(text, at, end, b"OuterFloorSurface"),
+        0 => compare::is_word(text, at, end, b"RoofSurface"),
+        1 => compare::is_word(text, at, end, b"GroundSurface"),
+        2 => compare::is_word(text, at, end, b"WallSurface"),
+        3 => compare::is_word(text, at, end, b"ClosureSurface"),
+        4 => compare::is_word(text, at, end, b"OuterCeilingSurface"),
+        5 => compare::is_word(text, at, end, b"OuterFloorSurface"),
         _ => false,
     }
 }
@@ -365,12 +365,12 @@ fn is_surface_6_to_11(text: &[u8], at: usize, end: usize, i: usize) -> bool
     ensures { λ r. ⌜ (r ≡ true → codeOf surfaceWords (decodeAt (now (text .entry)) at end) ≡ i + 1) ⌝ }
 {
     match i {
-        6 => strings::is_word(text, at, end, b"Window"),
-        7 => strings::is_word(text, at, end, b"Door"),
-        8 => strings::is_word(text, at, end, b"InteriorWallSurface"),
-        9 => strings::is_word(text, at, end, b"CeilingSurface"),
-        10 => strings::is_word(text, at, end, b"FloorSurface"),
-        11 => strings::is_word(text, at, end, b"WaterSurface"),
+        6 => compare::is_word(text, at, end, b"Window"),
+        7 => compare::is_word(text, at, end, b"Door"),
+        8 => compare::is_word(text, at, end, b"InteriorWallSurface"),
+        9 => compare::is_word(text, at, end, b"CeilingSurface"),
+        10 => compare::is_word(text, at, end, b"FloorSurface"),
+        11 => compare::is_word(text, at, end, b"WaterSurface"),
         _ => false,
     }
 }
@@ -381,12 +381,12 @@ fn is_surface_12_to_17(text: &[u8], at: usize, end: usize, i: usize) -> bool
     ensures { λ r. ⌜ (r ≡ true → codeOf surfaceWords (decodeAt (now (text .entry)) at end) ≡ i + 1) ⌝ }
 {
     match i {
-        12 => strings::is_word(text, at, end, b"WaterGroundSurface"),
-        13 => strings::is_word(text, at, end, b"WaterClosureSurface"),
-        14 => strings::is_word(text, at, end, b"TrafficArea"),
-        15 => strings::is_word(text, at, end, b"AuxiliaryTrafficArea"),
-        16 => strings::is_word(text, at, end, b"TransportationMarking"),
-        17 => strings::is_word(text, at, end, b"TransportationHole"),
+        12 => compare::is_word(text, at, end, b"WaterGroundSurface"),
+        13 => compare::is_word(text, at, end, b"WaterClosureSurface"),
+        14 => compare::is_word(text, at, end, b"TrafficArea"),
+        15 => compare::is_word(text, at, end, b"AuxiliaryTrafficArea"),
+        16 => compare::is_word(text, at, end, b"TransportationMarking"),
+        17 => compare::is_word(text, at, end, b"TransportationHole"),
         _ => false,
     }
 }

@@ -1,11 +1,11 @@
--- `strings::same_plain` meets its contract. The loop: the answer is that of comparing what is left of the two strings.
+-- `compare::same_plain` meets its contract. The loop: the answer is that of comparing what is left of the two strings.
 use Prim.Native.Nat.{_+_, _-_}
 use mathlib.Core.Path.{_≡_}
 use Rattle.utf8.specs.Utf8.{same}
 use Rattle.strings.specs.Spans.{Span, decodeAt}
-use Rattle.strings.proofs.Rules.{scans}
-use Rattle.strings.proofs.same_plain.Statement.{statement}
-use Rattle.strings.proofs.same_plain.Tie as tie
+use Rattle.compare.proofs.Rules.{scans}
+use Rattle.compare.proofs.same_plain.Statement.{statement}
+use Rattle.compare.proofs.same_plain.Tie as tie
 
 abbrev Inv-loop : tie.InvT-loop
 Inv-loop text at end at2 i₀ j₀ i j = (Span text i end) × (Span text j (at2 + (end - at))) × (i + at2 ≡ j + at) × (same (decodeAt text at end) (decodeAt text at2 (at2 + (end - at))) ≡ same (decodeAt text i end) (decodeAt text j (at2 + (end - at))))

@@ -1,12 +1,12 @@
--- `strings::is_word_ahead` meets its contract. The loop: the answer is that of comparing what is left of the word with what the cursor has ahead.
+-- `compare::is_word_ahead` meets its contract. The loop: the answer is that of comparing what is left of the word with what the cursor has ahead.
 use Prim.Native.Nat.{_≤_}
 use mathlib.Core.Path.{_≡_}
 use lib.ListN.{length, drop}
 use Rattle.utf8.specs.Utf8.{same}
 use Rattle.strings.specs.Spans.{Span, ahead, away}
-use Rattle.strings.proofs.Rules.{turns}
-use Rattle.strings.proofs.is_word_ahead.Statement.{statement}
-use Rattle.strings.proofs.is_word_ahead.Tie as tie
+use Rattle.compare.proofs.Rules.{turns}
+use Rattle.compare.proofs.is_word_ahead.Statement.{statement}
+use Rattle.compare.proofs.is_word_ahead.Tie as tie
 
 abbrev Inv-loop : tie.InvT-loop
 Inv-loop text word start c₀ k₀ c k = (Span text (c .at) (c .end)) × (k ≤ length word) × (same (drop start word) (ahead text c₀) ≡ same (drop k word) (ahead text c))

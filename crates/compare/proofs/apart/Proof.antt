@@ -1,7 +1,7 @@
--- `strings::apart` meets its contract.
-use Rattle.strings.proofs.Rules.{scans}
-use Rattle.strings.proofs.apart.Statement.{statement}
-use Rattle.strings.proofs.apart.Tie as tie
+-- `compare::apart` meets its contract.
+use Rattle.compare.proofs.Rules.{scans}
+use Rattle.compare.proofs.apart.Statement.{statement}
+use Rattle.compare.proofs.apart.Tie as tie
 
 pub apart-spec : {M : Type 1} → statement M
 apart-spec =

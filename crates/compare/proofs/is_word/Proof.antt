@@ -1,7 +1,7 @@
--- `strings::is_word` meets its contract.
-use Rattle.strings.proofs.Rules.{scans}
-use Rattle.strings.proofs.is_word.Statement.{statement}
-use Rattle.strings.proofs.is_word.Tie as tie
+-- `compare::is_word` meets its contract.
+use Rattle.compare.proofs.Rules.{scans}
+use Rattle.compare.proofs.is_word.Statement.{statement}
+use Rattle.compare.proofs.is_word.Tie as tie
 
 pub is-word-spec : {M : Type 1} → statement M
 is-word-spec =

@@ -1,10 +1,10 @@
--- `strings::same_ahead` meets its contract. The loop: the answer is that of comparing what the two cursors have ahead.
+-- `compare::same_ahead` meets its contract. The loop: the answer is that of comparing what the two cursors have ahead.
 use mathlib.Core.Path.{_≡_}
 use Rattle.utf8.specs.Utf8.{same}
 use Rattle.strings.specs.Spans.{Span, ahead, away}
-use Rattle.strings.proofs.Rules.{turns}
-use Rattle.strings.proofs.same_ahead.Statement.{statement}
-use Rattle.strings.proofs.same_ahead.Tie as tie
+use Rattle.compare.proofs.Rules.{turns}
+use Rattle.compare.proofs.same_ahead.Statement.{statement}
+use Rattle.compare.proofs.same_ahead.Tie as tie
 
 abbrev Inv-loop : tie.InvT-loop
 Inv-loop text c₀ d₀ c d = (Span text (c .at) (c .end)) × (Span text (d .at) (d .end)) × (same (ahead text c₀) (ahead text d₀) ≡ same (ahead text c) (ahead text d))

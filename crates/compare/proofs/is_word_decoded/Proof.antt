@@ -1,12 +1,12 @@
--- `strings::is_word_decoded` meets its contract. The loop: the answer is that of comparing what is left of the word with what is left of the string.
+-- `compare::is_word_decoded` meets its contract. The loop: the answer is that of comparing what is left of the word with what is left of the string.
 use Prim.Native.Nat.{_≤_, _-_}
 use mathlib.Core.Path.{_≡_}
 use lib.ListN.{length, drop}
 use Rattle.utf8.specs.Utf8.{same}
 use Rattle.strings.specs.Spans.{Span, decodeAt}
-use Rattle.strings.proofs.Rules.{turns}
-use Rattle.strings.proofs.is_word_decoded.Statement.{statement}
-use Rattle.strings.proofs.is_word_decoded.Tie as tie
+use Rattle.compare.proofs.Rules.{turns}
+use Rattle.compare.proofs.is_word_decoded.Statement.{statement}
+use Rattle.compare.proofs.is_word_decoded.Tie as tie
 
 abbrev Inv-loop : tie.InvT-loop
 Inv-loop text at end word i₀ k₀ i k = (Span text i end) × (k ≤ length word) × (same word (decodeAt text at end) ≡ same (drop k word) (decodeAt text i end))

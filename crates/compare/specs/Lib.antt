@@ -1,0 +1,2 @@
+-- What the inner functions tell.
+pub mod Says
