@@ -1,8 +1,7 @@
--- What the proofs of several functions use.
+-- What the proofs of several functions use, and those of the crate `parser`.
 mod Bytes
 mod EightBytes
-mod Moves
-mod Parts
-mod Leaves
-mod Growth
+pub mod Moves
+pub mod Parts
+pub mod Leaves
 mod Rules

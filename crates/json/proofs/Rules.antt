@@ -16,8 +16,7 @@ use Rattle.json.specs.declared.Scan.the-variants.{End}
 use Rattle.json.specs.Steps.{dot-yes, dot-no, sign-yes, sign-no, exp-plus, exp-minus, exp-else, mant-e, mant-E, nought-dot, nought-else, neg-0, neg-digit, neg-no}
 use Rattle.json.proofs.Moves.{stays-none, stays-more, blank-stays, digit-stays}
 use Rattle.json.proofs.Parts.{NoEnd, ends-bad, stops, passes, looks, joins, breaks, end-high, frac-digits, exps-digits, int-digits, mant-out, nought-out, mant-done, word-start, word-short, word-wrong, word-more, word-done, hexes-start, hex-short, hex-wrong, hex-more, hex-done, escape-out, escape-u, escape-one, escape-no, string-start, string-out, string-shut, string-bad, string-plain, string-letter, string-rest, string-break, string-escaped, escape-less, passes-start, passes-part, passes-all}
-use Rattle.json.proofs.Leaves.{scalar-string, scalar-minus, scalar-0, scalar-digit, scalar-true, scalar-false, scalar-null, scalar-low, scalar-high, digits-no, digits-yes, atom-fits, atom-read, atom-bad, text-fits, text-read, text-bad, string-high, name-out, name-wrong, name-break, colon-out, colon-wrong, named, named-at-once, at-quote, type-fits, type-named}
-use Rattle.json.proofs.Growth.{ready-node, digits-fit, digits-read, item-atom, value-out, value-atom, atom-asks, value-deep-array, value-deep-object, opens, value-array, value-object, array-out, array-empty-fits, array-empty, array-starts, element-asks, array-bad, array-deep, element-high, element-low, array-short, array-wrong, array-fits, array-more, array-closes, object-out, object-empty-fits, object-empty, object-starts, name-asks, member-bad, member-asks, member-read, object-bad, object-deep, member-high, member-low, object-short, object-wrong, object-fits, object-more, object-closes, parse-asks, parse-bad, parse-deep, parse-trailing, parse-whole, parse-long, parse-short, told-high, less}
+use Rattle.json.proofs.Leaves.{scalar-string, scalar-minus, scalar-0, scalar-digit, scalar-true, scalar-false, scalar-null, scalar-low, scalar-high, digits-no, digits-yes}
 
 -- what a test of a flag that a call gave says of the call's own test
 pub flag-yes : (r t : Bool) → r ≡ true → r ≡ t → true ≡ t
@@ -59,10 +58,7 @@ module _ {text : List ℕ} {at : ℕ} {r : Scan} (p : Reads text dot (to mant) (
   pub fraction-part : {e : ℕ} {r′ : Scan} → r ≡ End e → Reads text mant (numbered text) e r′ → Reads text nought (numbered text) at r′
   fraction-part q p′ = passes nought dot (numbered text) l (nought-dot 32 text at _ b) (joins dot mant (numbered text) p q p′)
 
-pub no-blank-there : {text : List ℕ} {at i : ℕ} → Skips blanks isBlank text at i → i < length text → false ≡ isBlank (getD text i 0)
-no-blank-there k l = k .stop l
+pub ruleset lexes = (needs, flag-yes, flag-no, flag-not-yes, flag-not-no, blanks-none, blanks-more, digits-none, digits-more, stays-stop, stays-out, ends-bad, stops, passes, looks, end-high, fraction-break, fraction-part, frac-digits, exps-digits, int-digits, mant-out, nought-out, mant-done, dot-yes, dot-no, sign-yes, sign-no, exp-plus, exp-minus, exp-else, mant-e, mant-E, nought-dot, nought-else, neg-0, neg-digit, neg-no, word-start, word-short, word-wrong, word-more, word-done, hexes-start, hex-short, hex-wrong, hex-more, hex-done, escape-out, escape-u, escape-one, escape-no, string-start, string-out, string-shut, string-bad, string-plain, string-letter, string-rest, string-break, string-escaped, escape-less, passes-start, passes-part, passes-all)
 
-pub ruleset lexes = (needs, at-quote, flag-yes, flag-no, flag-not-yes, flag-not-no, blanks-none, blanks-more, digits-none, digits-more, stays-stop, stays-out, ends-bad, stops, passes, looks, end-high, fraction-break, fraction-part, frac-digits, exps-digits, int-digits, mant-out, nought-out, mant-done, dot-yes, dot-no, sign-yes, sign-no, exp-plus, exp-minus, exp-else, mant-e, mant-E, nought-dot, nought-else, neg-0, neg-digit, neg-no, word-start, word-short, word-wrong, word-more, word-done, hexes-start, hex-short, hex-wrong, hex-more, hex-done, escape-out, escape-u, escape-one, escape-no, string-start, string-out, string-shut, string-bad, string-plain, string-letter, string-rest, string-break, string-escaped, escape-less, passes-start, passes-part, passes-all)
-
--- the functions that write the table
-pub ruleset walks = (needs, scalar-string, scalar-minus, scalar-0, scalar-digit, scalar-true, scalar-false, scalar-null, scalar-low, scalar-high, digits-no, digits-yes, atom-fits, atom-read, atom-bad, text-fits, text-read, text-bad, string-high, name-out, name-wrong, name-break, colon-out, colon-wrong, named, named-at-once, type-fits, type-named, no-blank-there, ready-node, digits-fit, digits-read, item-atom, value-out, value-atom, atom-asks, value-deep-array, value-deep-object, opens, value-array, value-object, array-out, array-empty-fits, array-empty, array-starts, element-asks, array-bad, array-deep, element-high, element-low, array-short, array-wrong, array-fits, array-more, array-closes, object-out, object-empty-fits, object-empty, object-starts, name-asks, member-bad, member-asks, member-read, object-bad, object-deep, member-high, member-low, object-short, object-wrong, object-fits, object-more, object-closes, parse-asks, parse-bad, parse-deep, parse-trailing, parse-whole, parse-long, parse-short, told-high, less)
+-- values that hold no other
+pub ruleset scalars = (needs, scalar-string, scalar-minus, scalar-0, scalar-digit, scalar-true, scalar-false, scalar-null, scalar-low, scalar-high, digits-no, digits-yes)

@@ -54,7 +54,7 @@ pub fn open(text: &[u8], table: &mut [u32]) -> Opened
     requires { ⌜ Room (now text) (now table) ⌝ }
     ensures { λ r. ⌜ Opens (now (text .entry)) (now (table .entry)) (now (table .exit)) r ⌝ }
 {
-    let answer = json::parse(text, table);
+    let answer = parser::parse(text, table);
     match answer {
         Parsed::Nodes(n) => Opened::Tree(n),
         Parsed::Bad(p) => Opened::Refused(Refusal {

@@ -1,10 +1,10 @@
--- `json::put_node` meets its contract.
+-- `parser::put_node` meets its contract.
 use native.Mathlib.Omega.{arith}
 use lib.ListN.{length-set}
 use borrow.Author.Needs.{needs}
-use Rattle.json.proofs.Leaves.{three}
-use Rattle.json.proofs.put_node.Statement.{statement}
-use Rattle.json.proofs.put_node.Tie as tie
+use Rattle.parser.proofs.Nodes.{three}
+use Rattle.parser.proofs.put_node.Statement.{statement}
+use Rattle.parser.proofs.put_node.Tie as tie
 
 cast-table : tie.Need-cast-table
 cast-table c = search needs

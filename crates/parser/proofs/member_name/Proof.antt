@@ -1,9 +1,9 @@
--- `json::member_name` meets its contract.
+-- `parser::member_name` meets its contract.
 use native.Mathlib.Omega.{arith}
-use Rattle.json.proofs.Leaves.{string-small}
-use Rattle.json.proofs.Rules.{walks}
-use Rattle.json.proofs.member_name.Statement.{statement}
-use Rattle.json.proofs.member_name.Tie as tie
+use Rattle.parser.proofs.Nodes.{string-small}
+use Rattle.parser.proofs.Rules.{walks}
+use Rattle.parser.proofs.member_name.Statement.{statement}
+use Rattle.parser.proofs.member_name.Tie as tie
 
 pub member-name-spec : {M : Type 1} → statement M
 member-name-spec =

@@ -6,22 +6,24 @@ use native.Mathlib.Nat.{add-zero}
 use native.Mathlib.Omega.{arith}
 use lib.ListN.{length, getD}
 use lib.Dec.{T}
 use Rattle.json.specs.Tree.{Json, Items, _◂_, Members, with, Name}
 use Rattle.json.specs.Tree as tree
 use Rattle.json.specs.Machine.{Frame, array, object, Mode, step, go, dead, finish, bad, tooDeep, reads, read, isBlank}
 use Rattle.json.specs.Machine.Mode.{want, first, name0, name1, got}
 use Rattle.json.specs.Table.{size, sizes, widths, Sub, arr, obj, Subs, nil, Fields, last}
-use Rattle.json.specs.Says.{from, Stays, Skips, blanks, Fits, Wrote, Plain, Scalar, Digits, Atomic, Ready, Opened, Read, Told, Named, Names, Membered, Member, Atom}
+use Rattle.json.specs.Says.{from, Stays, Skips, blanks, Plain, Scalar, Digits}
+use Rattle.parser.specs.Says.{Fits, Wrote, Atomic, Ready, Opened, Read, Told, Named, Names, Membered, Member, Atom}
 use Rattle.json.specs.Parse.{Tells}
 use Rattle.json.specs.Laws.{sizes-◂, widths-with, subs-◂, fields-with, same-subs, same-fields, same-quoted}
 use Rattle.json.specs.Steps.{open-array, open-object, deep-array, deep-object, first-close, first-else, name0-close, name0-else, array-comma, array-close, array-no, object-comma, object-close, object-no, got-end}
 use Rattle.json.specs.declared.Scan.{Scan}
 use Rattle.json.specs.declared.Scan.the-variants as scan
-use Rattle.json.specs.declared.Walk.{Walk}
-use Rattle.json.specs.declared.Walk.the-variants as walk
+use Rattle.parser.specs.declared.Walk.{Walk}
+use Rattle.parser.specs.declared.Walk.the-variants as walk
 use Rattle.json.specs.declared.Parsed.the-variants as parsed
 use Rattle.json.proofs.Moves.{at-end, moves, dies, deepens, alike, short, stays-none}
-use Rattle.json.proofs.Leaves.{words-of, atom-fits}
+use Rattle.json.proofs.Leaves.{words-of}
+use Rattle.parser.proofs.Nodes.{atom-fits}
 
 -- what the call told of a value that was read
 pub told-read : {x t₀ t : List ℕ} {m : Mode} {at levels most n e k : ℕ} (r : Walk) → Told x t₀ t m at levels most n r → r ≡ walk.Read e k → Read x t₀ t m at levels most n e k

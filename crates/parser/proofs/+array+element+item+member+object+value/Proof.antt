@@ -5,34 +5,34 @@ use native.Mathlib.Omega.{arith}
 use lib.ListN.{length}
 use borrow.Fn.Kinds.{In}
 use borrow.Fn.PlainCycle.{Measures, is, falls, and}
-use Rattle.json.proofs.Growth.{Elements, Fielded, element-high, array-fits, member-high, object-fits}
-use Rattle.json.proofs.Rules.{walks}
-use Rattle.json.proofs.array.Reads as array
-use Rattle.json.proofs.array.Kinds as array-kinds
-use Rattle.json.proofs.+array+element+item+member+object+value.Lts-array as array-lts
-use Rattle.json.proofs.element.Reads as element
-use Rattle.json.proofs.element.Kinds as element-kinds
-use Rattle.json.proofs.+array+element+item+member+object+value.Lts-element as element-lts
-use Rattle.json.proofs.item.Reads as item
-use Rattle.json.proofs.item.Kinds as item-kinds
-use Rattle.json.proofs.+array+element+item+member+object+value.Lts-item as item-lts
-use Rattle.json.proofs.member.Reads as member
-use Rattle.json.proofs.member.Kinds as member-kinds
-use Rattle.json.proofs.+array+element+item+member+object+value.Lts-member as member-lts
-use Rattle.json.proofs.object.Reads as object
-use Rattle.json.proofs.object.Kinds as object-kinds
-use Rattle.json.proofs.+array+element+item+member+object+value.Lts-object as object-lts
-use Rattle.json.proofs.value.Reads as value
-use Rattle.json.proofs.value.Kinds as value-kinds
-use Rattle.json.proofs.+array+element+item+member+object+value.Lts-value as value-lts
-use Rattle.json.proofs.atom.Reads as atom-reads
+use Rattle.parser.proofs.Growth.{Elements, Fielded, element-high, array-fits, member-high, object-fits}
+use Rattle.parser.proofs.Rules.{walks}
+use Rattle.parser.proofs.array.Reads as array
+use Rattle.parser.proofs.array.Kinds as array-kinds
+use Rattle.parser.proofs.+array+element+item+member+object+value.Lts-array as array-lts
+use Rattle.parser.proofs.element.Reads as element
+use Rattle.parser.proofs.element.Kinds as element-kinds
+use Rattle.parser.proofs.+array+element+item+member+object+value.Lts-element as element-lts
+use Rattle.parser.proofs.item.Reads as item
+use Rattle.parser.proofs.item.Kinds as item-kinds
+use Rattle.parser.proofs.+array+element+item+member+object+value.Lts-item as item-lts
+use Rattle.parser.proofs.member.Reads as member
+use Rattle.parser.proofs.member.Kinds as member-kinds
+use Rattle.parser.proofs.+array+element+item+member+object+value.Lts-member as member-lts
+use Rattle.parser.proofs.object.Reads as object
+use Rattle.parser.proofs.object.Kinds as object-kinds
+use Rattle.parser.proofs.+array+element+item+member+object+value.Lts-object as object-lts
+use Rattle.parser.proofs.value.Reads as value
+use Rattle.parser.proofs.value.Kinds as value-kinds
+use Rattle.parser.proofs.+array+element+item+member+object+value.Lts-value as value-lts
+use Rattle.parser.proofs.atom.Reads as atom-reads
 use Rattle.json.proofs.digits_end.Reads as digits-end-reads
-use Rattle.json.proofs.member_name.Reads as member-name-reads
-use Rattle.json.proofs.put_node.Reads as put-node-reads
+use Rattle.parser.proofs.member_name.Reads as member-name-reads
+use Rattle.parser.proofs.put_node.Reads as put-node-reads
 use Rattle.json.proofs.skip_blanks.Reads as skip-blanks-reads
-use Rattle.json.proofs.text_node.Reads as text-node-reads
-use Rattle.json.proofs.+array+element+item+member+object+value.{statement}
-use Rattle.json.proofs.+array+element+item+member+object+value.Tie.{close}
+use Rattle.parser.proofs.text_node.Reads as text-node-reads
+use Rattle.parser.proofs.+array+element+item+member+object+value.{statement}
+use Rattle.parser.proofs.+array+element+item+member+object+value.Tie.{close}
 
 abbrev μ-array : Measures 2 array-kinds.ps ℕ
 μ-array κs a = 4 * a .1 .1 .0 + 3

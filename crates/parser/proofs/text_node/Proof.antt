@@ -1,7 +1,7 @@
--- `json::text_node` meets its contract.
-use Rattle.json.proofs.Rules.{walks}
-use Rattle.json.proofs.text_node.Statement.{statement}
-use Rattle.json.proofs.text_node.Tie as tie
+-- `parser::text_node` meets its contract.
+use Rattle.parser.proofs.Rules.{walks}
+use Rattle.parser.proofs.text_node.Statement.{statement}
+use Rattle.parser.proofs.text_node.Tie as tie
 
 pub text-node-spec : {M : Type 1} → statement M
 text-node-spec =

@@ -1,0 +1,2 @@
+-- What the parts of the parser tell.
+pub mod Says
