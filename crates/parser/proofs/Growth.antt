@@ -1,23 +1,27 @@
 -- Values and containers: what holds for every stack that the levels left allow, and the words that are written.
-use mathlib.Core.Path.{_≡_, refl, sym, _∙_}
+use mathlib.Core.Path.{_≡_, refl, sym, subst, _∙_}
+use mathlib.Core.Bool.{Bool, true, false}
 use mathlib.Core.List.{List, [], _∷_}
 use Prim.Native.Nat.{ℕ, _+_, _-_, _*_, _≤_, _<_}
 use native.Mathlib.Nat.{add-zero}
 use native.Mathlib.Omega.{arith}
 use lib.ListN.{length, getD}
-use lib.Dec.{T}
+use lib.Dec.{T, leb}
+use borrow.Author.Tests.{leb-true, leb-false}
 use Rattle.json.specs.Tree.{Json, Items, _◂_, Members, with, Name}
 use Rattle.json.specs.Tree as tree
-use Rattle.json.specs.Machine.{Frame, array, object, Mode, step, go, dead, finish, bad, tooDeep, reads, read, isBlank}
+use Rattle.json.specs.Machine.{Frame, array, object, Mode, step, go, dead, ending, finish, bad, tooDeep, reads, read, isBlank}
 use Rattle.json.specs.Machine.Mode.{want, first, name0, name1, got}
 use Rattle.json.specs.Table.{size, sizes, widths, Sub, arr, obj, Subs, nil, Fields, last}
 use Rattle.json.specs.Says.{from, Stays, Skips, blanks, Plain, Scalar, Digits}
-use Rattle.parser.specs.Says.{Fits, Wrote, Atomic, Ready, Opened, Read, Told, Named, Names, Membered, Member, Atom}
+use Rattle.parser.specs.Says.{Fits, Wrote, Atomic, Ready, Opened, Read, Told, Named, Names, Membered, Member, Atom, Then, Other, Neither, Begins, Follows}
 use Rattle.json.specs.Parse.{Tells}
 use Rattle.json.specs.Laws.{sizes-◂, widths-with, subs-◂, fields-with, same-subs, same-fields, same-quoted}
 use Rattle.json.specs.Steps.{open-array, open-object, deep-array, deep-object, first-close, first-else, name0-close, name0-else, array-comma, array-close, array-no, object-comma, object-close, object-no, got-end}
 use Rattle.json.specs.declared.Scan.{Scan}
 use Rattle.json.specs.declared.Scan.the-variants as scan
+use Rattle.parser.specs.declared.Next.{Next}
+use Rattle.parser.specs.declared.Next.the-variants as next
 use Rattle.parser.specs.declared.Walk.{Walk}
 use Rattle.parser.specs.declared.Walk.the-variants as walk
 use Rattle.json.specs.declared.Parsed.the-variants as parsed
@@ -203,6 +207,57 @@ module _ {b : ℕ} {m : Mode} {x t₀ t₁ : List ℕ} {at levels n i k : ℕ} {
     goes = λ ks z. l .goes ks z ∙ r .goes (f ks) (omega (arith, o ks));
   }
 
+-- what `opening` and `after` told, where they gave r
+module _ {x : List ℕ} {at e : ℕ} (c : ℕ) (r : Next) where
+  begins-closed : Begins x at c r → r ≡ next.Closed e → Then x at c e
+  unfolding Begins
+  begins-closed k q = rw q at k
+
+  begins-more : Begins x at c r → r ≡ next.More e → Other x at c e
+  unfolding Begins
+  begins-more k q = rw q at k
+
+  begins-bad : Begins x at c r → r ≡ next.Bad e → (Skips blanks isBlank x at e) × (length x ≤ e)
+  unfolding Begins
+  begins-bad k q = rw q at k
+
+  follows-end : Follows x at c r → r ≡ next.Closed e → Then x at c e
+  unfolding Follows
+  follows-end k q = rw q at k
+
+  follows-more : Follows x at c r → r ≡ next.More e → Then x at 44 e
+  unfolding Follows
+  follows-more k q = rw q at k
+
+  follows-bad : Follows x at c r → r ≡ next.Bad e → Neither x at c e
+  unfolding Follows
+  follows-bad k q = rw q at k
+
+-- what holds one past a byte
+one-past : {x : List ℕ} {at b e : ℕ} (P : ℕ → Type 0) → ((i : ℕ) → Skips blanks isBlank x at i → i < length x → getD x i 0 ≡ b → P (i + 1)) → Then x at b e → P e
+one-past P f a = subst P (a .past) (f (a .place) (a .skips) (a .there) (a .byte))
+
+-- the text ends at an offset, or goes on there
+ends-or : (x : List ℕ) (i : ℕ) {P : Type 0} → (length x ≤ i → P) → (i < length x → P) → P
+ends-or x i {P} f g = by (leb (length x) i) refl
+  where
+    by : (b : Bool) → leb (length x) i ≡ b → P
+    by true e = f (leb-true (length x) i e)
+    by false e = g (leb-false (length x) i e)
+
+-- a mode in which no text ends, whatever is open
+short-stack : (x : List ℕ) (m : Mode) → ((i : ℕ) → ending 32 x m i ≡ bad i) → (ks : List Frame) (i : ℕ) → finish 32 x m ks i ≡ bad i
+short-stack x m f [] i = f i
+short-stack x m f (k ∷ ks) i = refl
+
+-- the start of a container
+module _ {b : ℕ} {x t₀ : List ℕ} {at levels n e : ℕ} (c : ℕ) (m : Mode) (y : T (blanks m)) (o : Opened b x t₀ at levels n) (r : Next) (k : Begins x (at + 1) c r) where
+  container-out : ((ks : List Frame) (i : ℕ) → finish 32 x m ks i ≡ bad i) → (t : List ℕ) → r ≡ next.Bad e → Told x t₀ t m (at + 1) levels 31 n (walk.Bad e)
+  container-out f t q = let h = begins-bad c r k q in level-out (enters o (h .0) m y) t (h .1) (λ ks. f ks _)
+
+  container-fits : r ≡ next.Closed e → Fits t₀ n at e (n + 3)
+  container-fits q = one-past (λ e. Fits t₀ n at e (n + 3)) (λ i s h z. level-fits (enters o s m y) (omega arith) h) (begins-closed c r k q)
+
 -- an array: its next element is to come at i; or its last one was read, and the byte at i is no blank
 pub record Elements (x t₀ t : List ℕ) (at levels n i k : ℕ) : Type 0 where
   pub elements : Items
@@ -217,23 +272,32 @@ pub record Added (x t₀ t : List ℕ) (at levels n i k : ℕ) : Type 0 where
   pub stand : Subs x t (n + 3) (elements ◂ value)
   pub ends : (n + 3) + sizes (elements ◂ value) ≡ k
 
-module _ {x t₀ : List ℕ} {at levels n i : ℕ} (o : Opened 91 x t₀ at levels n) (k : Skips blanks isBlank x (at + 1) i) where
-  pub array-out : (t : List ℕ) → length x ≤ i → Told x t₀ t (first at) (at + 1) levels 31 n (walk.Bad i)
-  unfolding Told
-  array-out t h = λ ks z. k .stays .same (first at) tt ks ∙ short x (first at) ks i refl h
+module _ {x t₀ : List ℕ} {at levels n e : ℕ} (o : Opened 91 x t₀ at levels n) (r : Next) (k : Begins x (at + 1) 93 r) where
+  pub array-out : (t : List ℕ) → r ≡ next.Bad e → Told x t₀ t (first at) (at + 1) levels 31 n (walk.Bad e)
+  array-out = container-out 93 (first at) tt o r k (short-stack x (first at) (λ i. refl))
 
-  pub array-empty-fits : i < length x → Fits t₀ n at (i + 1) (n + 3)
-  array-empty-fits h = level-fits (enters o k (first at) tt) (omega arith) h
+  pub array-empty-fits : r ≡ next.Closed e → Fits t₀ n at e (n + 3)
+  array-empty-fits = container-fits 93 (first at) tt o r k
 
-  pub array-empty : (t : List ℕ) → i < length x → getD x i 0 ≡ 93 → Wrote t₀ t n at (i + 1) (n + 3) → Told x t₀ t (first at) (at + 1) levels 31 n (walk.Read (i + 1) (n + 3))
+  pub array-empty : (t : List ℕ) → r ≡ next.Closed e → Wrote t₀ t n at e (n + 3) → Told x t₀ t (first at) (at + 1) levels 31 n (walk.Read e (n + 3))
   unfolding size sizes
-  array-empty t h b w =
-      let p = k .stays .low in
-      level-closes (enters o k (first at) tt) (omega arith) h (first-close 32 x i _ b at) w (arr (words-of (w .placed) (omega arith) (omega arith) (o .byte)) nil) refl
+  array-empty t q =
+      one-past (λ e. Wrote t₀ t n at e (n + 3) → Told x t₀ t (first at) (at + 1) levels 31 n (walk.Read e (n + 3)))
+      (λ i s h z w.
+      let l = s .stays .low in
+      level-closes (enters o s (first at) tt) (omega arith) h (first-close 32 x i _ z at) w (arr (words-of (w .placed) (omega arith) (omega arith) (o .byte)) nil) refl)
+      (begins-closed 93 r k q)
 
-  pub array-starts : i < length x → (getD x i 0 ≡ 93 → ⊥) → Elements x t₀ t₀ at levels n i (n + 3)
+  pub array-starts : r ≡ next.More e → Elements x t₀ t₀ at levels n e (n + 3)
   unfolding sizes
-  array-starts h c = record { elements = tree.noItems; level = level-looks (enters o k (first at) tt) want (λ ks. array at tree.noItems ∷ ks) h (first-else 32 x i _ (k .stop h) c at); stand = nil; ends = add-zero (n + 3) }
+  array-starts q =
+      let h = begins-more 93 r k q in
+      record {
+        elements = tree.noItems;
+        level = level-looks (enters o (h .skips) (first at) tt) want (λ ks. array at tree.noItems ∷ ks) (h .there) (first-else 32 x e _ (h .skips .stop (h .there)) (h .byte) at);
+        stand = nil;
+        ends = add-zero (n + 3);
+      }
 
 module _ {x t₀ t₁ : List ℕ} {at levels n i k : ℕ} (g : Elements x t₀ t₁ at levels n i k) where
   pub element-asks : Ready x t₁ i levels 32 k
@@ -264,32 +328,45 @@ module _ {x t₀ t₁ : List ℕ} {at levels n i k : ℕ} (g : Elements x t₀ t
             ends = omega (arith, sizes-◂ (g .elements) (v .value), g .ends, v .ends);
           }
 
-      pub element-low : i ≤ j
-      element-low = omega (arith, told-read r h q .more, s .stays .low)
-
-      pub array-short : length x ≤ j → Told x t₀ t₂ (first at) (at + 1) levels 31 n (walk.Bad j)
-      array-short h = level-out (array-turn .level) t₂ h (λ ks. refl)
-
-      pub array-wrong : j < length x → (getD x j 0 ≡ 44 → ⊥) → (getD x j 0 ≡ 93 → ⊥) → Told x t₀ t₂ (first at) (at + 1) levels 31 n (walk.Bad j)
-      array-wrong h c d = level-dies (array-turn .level) t₂ h (λ ks. array-no 32 x j _ _ _ _ ks (s .stop h) c d)
-
-      pub array-fits : j < length x → Fits t₂ n at (j + 1) k′
-      array-fits h = level-fits (array-turn .level) (omega arith) h
-
-      pub array-more : j < length x → getD x j 0 ≡ 44 → Elements x t₀ t₂ at levels n (j + 1) k′
-      array-more h b =
-          let a = array-turn in
-          record { elements = a .elements ◂ a .value; level = level-byte (a .level) want (λ ks. array at (a .elements ◂ a .value) ∷ ks) (omega arith) h (λ ks. array-comma 32 x j _ _ _ _ ks b); stand = a .stand; ends = a .ends }
-
-      pub array-closes : (t′ : List ℕ) → j < length x → getD x j 0 ≡ 93 → Wrote t₂ t′ n at (j + 1) k′ → Told x t₀ t′ (first at) (at + 1) levels 31 n (walk.Read (j + 1) k′)
+      array-shut : (t′ : List ℕ) → j < length x → getD x j 0 ≡ 93 → Wrote t₂ t′ n at (j + 1) k′ → Told x t₀ t′ (first at) (at + 1) levels 31 n (walk.Read (j + 1) k′)
       unfolding size
-      array-closes t′ h b w =
+      array-shut t′ h z w =
           let a = array-turn in
           let l = a .level in
           let q : n + (3 + sizes (a .elements ◂ a .value)) ≡ k′ = omega (arith, a .ends) in
-          level-closes l (omega arith) h (λ ks. array-close 32 x j _ _ _ _ ks b) w
+          level-closes l (omega arith) h (λ ks. array-close 32 x j _ _ _ _ ks z) w
           (arr (rw q (words-of (w .placed) (omega (arith, l .past)) (omega arith) (l .opened .byte))) (same-subs (w .long) (a .stand) (λ y a z. w .above y (omega arith))))
           q
+
+      array-comma-read : j < length x → getD x j 0 ≡ 44 → Elements x t₀ t₂ at levels n (j + 1) k′
+      array-comma-read h z =
+          let a = array-turn in
+          record {
+            elements = a .elements ◂ a .value;
+            level = level-byte (a .level) want (λ ks. array at (a .elements ◂ a .value) ∷ ks) (omega arith) h (λ ks. array-comma 32 x j _ _ _ _ ks z);
+            stand = a .stand;
+            ends = a .ends;
+          }
+
+    module _ (a : Next) (s : Follows x e 93 a) where
+      pub element-less : {j : ℕ} → a ≡ next.More j → length x - j < length x - i
+      element-less z = let f = follows-more 93 a s z in omega (arith, told-read r h q .more, f .skips .stays .low, f .there, f .past)
+
+      pub array-wrong : {j : ℕ} → a ≡ next.Bad j → Told x t₀ t₂ (first at) (at + 1) levels 31 n (walk.Bad j)
+      array-wrong {j} z =
+          let f = follows-bad 93 a s z in
+          let l = array-turn (f .skips) .level in
+          ends-or x j (λ u. level-out l t₂ u (λ ks. refl)) (λ u. level-dies l t₂ u (λ ks. array-no 32 x j _ _ _ _ ks (f .skips .stop u) (f .wrong u .0) (f .wrong u .1)))
+
+      pub array-fits : {j : ℕ} → a ≡ next.Closed j → Fits t₂ n at j k′
+      array-fits z = one-past (λ j. Fits t₂ n at j k′) (λ j y u v. level-fits (array-turn y .level) (omega arith) u) (follows-end 93 a s z)
+
+      pub array-more : {j : ℕ} → a ≡ next.More j → Elements x t₀ t₂ at levels n j k′
+      array-more z = one-past (λ j. Elements x t₀ t₂ at levels n j k′) (λ j y u v. array-comma-read y u v) (follows-more 93 a s z)
+
+      pub array-closes : (t′ : List ℕ) {j : ℕ} → a ≡ next.Closed j → Wrote t₂ t′ n at j k′ → Told x t₀ t′ (first at) (at + 1) levels 31 n (walk.Read j k′)
+      array-closes t′ z =
+          one-past (λ j. Wrote t₂ t′ n at j k′ → Told x t₀ t′ (first at) (at + 1) levels 31 n (walk.Read j k′)) (λ j y u v w. array-shut y t′ u v w) (follows-end 93 a s z)
 
 -- an object: a name is to come at i; or its last member was read, and the byte at i is no blank
 pub record Fielded (x t₀ t : List ℕ) (at levels n i k : ℕ) : Type 0 where
@@ -306,23 +383,32 @@ pub record Held (x t₀ t : List ℕ) (at levels n i k : ℕ) : Type 0 where
   pub stand : Fields x t (n + 3) (with members key value)
   pub ends : (n + 3) + widths (with members key value) ≡ k
 
-module _ {x t₀ : List ℕ} {at levels n i : ℕ} (o : Opened 123 x t₀ at levels n) (k : Skips blanks isBlank x (at + 1) i) where
-  pub object-out : (t : List ℕ) → length x ≤ i → Told x t₀ t (name0 at) (at + 1) levels 31 n (walk.Bad i)
-  unfolding Told
-  object-out t h = λ ks z. k .stays .same (name0 at) tt ks ∙ short x (name0 at) ks i refl h
+module _ {x t₀ : List ℕ} {at levels n e : ℕ} (o : Opened 123 x t₀ at levels n) (r : Next) (k : Begins x (at + 1) 125 r) where
+  pub object-out : (t : List ℕ) → r ≡ next.Bad e → Told x t₀ t (name0 at) (at + 1) levels 31 n (walk.Bad e)
+  object-out = container-out 125 (name0 at) tt o r k (short-stack x (name0 at) (λ i. refl))
 
-  pub object-empty-fits : i < length x → Fits t₀ n at (i + 1) (n + 3)
-  object-empty-fits h = level-fits (enters o k (name0 at) tt) (omega arith) h
+  pub object-empty-fits : r ≡ next.Closed e → Fits t₀ n at e (n + 3)
+  object-empty-fits = container-fits 125 (name0 at) tt o r k
 
-  pub object-empty : (t : List ℕ) → i < length x → getD x i 0 ≡ 125 → Wrote t₀ t n at (i + 1) (n + 3) → Told x t₀ t (name0 at) (at + 1) levels 31 n (walk.Read (i + 1) (n + 3))
+  pub object-empty : (t : List ℕ) → r ≡ next.Closed e → Wrote t₀ t n at e (n + 3) → Told x t₀ t (name0 at) (at + 1) levels 31 n (walk.Read e (n + 3))
   unfolding size widths
-  object-empty t h b w =
-      let p = k .stays .low in
-      level-closes (enters o k (name0 at) tt) (omega arith) h (name0-close 32 x i _ b at) w (obj (words-of (w .placed) (omega arith) (omega arith) (o .byte)) last) refl
+  object-empty t q =
+      one-past (λ e. Wrote t₀ t n at e (n + 3) → Told x t₀ t (name0 at) (at + 1) levels 31 n (walk.Read e (n + 3)))
+      (λ i s h z w.
+      let l = s .stays .low in
+      level-closes (enters o s (name0 at) tt) (omega arith) h (name0-close 32 x i _ z at) w (obj (words-of (w .placed) (omega arith) (omega arith) (o .byte)) last) refl)
+      (begins-closed 125 r k q)
 
-  pub object-starts : i < length x → (getD x i 0 ≡ 125 → ⊥) → Fielded x t₀ t₀ at levels n i (n + 3)
+  pub object-starts : r ≡ next.More e → Fielded x t₀ t₀ at levels n e (n + 3)
   unfolding widths
-  object-starts h c = record { members = tree.empty; level = level-looks (enters o k (name0 at) tt) (name1 at tree.empty) (λ ks. ks) h (name0-else 32 x i _ (k .stop h) c at); stand = last; ends = add-zero (n + 3) }
+  object-starts q =
+      let h = begins-more 125 r k q in
+      record {
+        members = tree.empty;
+        level = level-looks (enters o (h .skips) (name0 at) tt) (name1 at tree.empty) (λ ks. ks) (h .there) (name0-else 32 x e _ (h .skips .stop (h .there)) (h .byte) at);
+        stand = last;
+        ends = add-zero (n + 3);
+      }
 
 -- a member: its name and then its value
 module _ {x t₀ : List ℕ} (t₁ : List ℕ) {at levels n : ℕ} {r : Scan} (g : Ready x t₀ at levels 32 n) (h : Names x t₀ t₁ at n r) where
@@ -405,32 +491,45 @@ module _ {x t₀ t₁ : List ℕ} {at levels n i k : ℕ} (g : Fielded x t₀ t�
             ends = omega (arith, widths-with (g .members) (v .key) (v .value), g .ends, v .ends);
           }
 
-      pub member-low : i ≤ j
-      member-low = omega (arith, member-of r h q .more, s .stays .low)
-
-      pub object-short : length x ≤ j → Told x t₀ t₂ (name0 at) (at + 1) levels 31 n (walk.Bad j)
-      object-short h = level-out (object-turn .level) t₂ h (λ ks. refl)
-
-      pub object-wrong : j < length x → (getD x j 0 ≡ 44 → ⊥) → (getD x j 0 ≡ 125 → ⊥) → Told x t₀ t₂ (name0 at) (at + 1) levels 31 n (walk.Bad j)
-      object-wrong h c d = level-dies (object-turn .level) t₂ h (λ ks. object-no 32 x j _ _ _ _ _ ks (s .stop h) c d)
-
-      pub object-fits : j < length x → Fits t₂ n at (j + 1) k′
-      object-fits h = level-fits (object-turn .level) (omega arith) h
-
-      pub object-more : j < length x → getD x j 0 ≡ 44 → Fielded x t₀ t₂ at levels n (j + 1) k′
-      object-more h b =
-          let a = object-turn in
-          record { members = with (a .members) (a .key) (a .value); level = level-byte (a .level) (name1 at (with (a .members) (a .key) (a .value))) (λ ks. ks) (omega arith) h (λ ks. object-comma 32 x j _ _ _ _ _ ks b); stand = a .stand; ends = a .ends }
-
-      pub object-closes : (t′ : List ℕ) → j < length x → getD x j 0 ≡ 125 → Wrote t₂ t′ n at (j + 1) k′ → Told x t₀ t′ (name0 at) (at + 1) levels 31 n (walk.Read (j + 1) k′)
+      object-shut : (t′ : List ℕ) → j < length x → getD x j 0 ≡ 125 → Wrote t₂ t′ n at (j + 1) k′ → Told x t₀ t′ (name0 at) (at + 1) levels 31 n (walk.Read (j + 1) k′)
       unfolding size
-      object-closes t′ h b w =
+      object-shut t′ h z w =
           let a = object-turn in
           let l = a .level in
           let q : n + (3 + widths (with (a .members) (a .key) (a .value))) ≡ k′ = omega (arith, a .ends) in
-          level-closes l (omega arith) h (λ ks. object-close 32 x j _ _ _ _ _ ks b) w
+          level-closes l (omega arith) h (λ ks. object-close 32 x j _ _ _ _ _ ks z) w
           (obj (rw q (words-of (w .placed) (omega (arith, l .past)) (omega arith) (l .opened .byte))) (same-fields (w .long) (a .stand) (λ y a z. w .above y (omega arith))))
           q
+
+      object-comma-read : j < length x → getD x j 0 ≡ 44 → Fielded x t₀ t₂ at levels n (j + 1) k′
+      object-comma-read h z =
+          let a = object-turn in
+          record {
+            members = with (a .members) (a .key) (a .value);
+            level = level-byte (a .level) (name1 at (with (a .members) (a .key) (a .value))) (λ ks. ks) (omega arith) h (λ ks. object-comma 32 x j _ _ _ _ _ ks z);
+            stand = a .stand;
+            ends = a .ends;
+          }
+
+    module _ (a : Next) (s : Follows x e 125 a) where
+      pub member-less : {j : ℕ} → a ≡ next.More j → length x - j < length x - i
+      member-less z = let f = follows-more 125 a s z in omega (arith, member-of r h q .more, f .skips .stays .low, f .there, f .past)
+
+      pub object-wrong : {j : ℕ} → a ≡ next.Bad j → Told x t₀ t₂ (name0 at) (at + 1) levels 31 n (walk.Bad j)
+      object-wrong {j} z =
+          let f = follows-bad 125 a s z in
+          let l = object-turn (f .skips) .level in
+          ends-or x j (λ u. level-out l t₂ u (λ ks. refl)) (λ u. level-dies l t₂ u (λ ks. object-no 32 x j _ _ _ _ _ ks (f .skips .stop u) (f .wrong u .0) (f .wrong u .1)))
+
+      pub object-fits : {j : ℕ} → a ≡ next.Closed j → Fits t₂ n at j k′
+      object-fits z = one-past (λ j. Fits t₂ n at j k′) (λ j y u v. level-fits (object-turn y .level) (omega arith) u) (follows-end 125 a s z)
+
+      pub object-more : {j : ℕ} → a ≡ next.More j → Fielded x t₀ t₂ at levels n j k′
+      object-more z = one-past (λ j. Fielded x t₀ t₂ at levels n j k′) (λ j y u v. object-comma-read y u v) (follows-more 125 a s z)
+
+      pub object-closes : (t′ : List ℕ) {j : ℕ} → a ≡ next.Closed j → Wrote t₂ t′ n at j k′ → Told x t₀ t′ (name0 at) (at + 1) levels 31 n (walk.Read j k′)
+      object-closes t′ z =
+          one-past (λ j. Wrote t₂ t′ n at j k′ → Told x t₀ t′ (name0 at) (at + 1) levels 31 n (walk.Read j k′)) (λ j y u v w. object-shut y t′ u v w) (follows-end 125 a s z)
 
 -- the whole text
 from-start : (x : List ℕ) → from x want [] 0 ≡ read x
@@ -472,6 +571,3 @@ parse-short x t h l = (h, l, refl)
 -- where a whole text's value ends
 pub told-high : (x t₀ t : List ℕ) (m : Mode) (at levels most n : ℕ) (r : Walk) (e k : ℕ) → Told x t₀ t m at levels most n r → r ≡ walk.Read e k → e ≤ length x
 told-high x t₀ t m at levels most n r e k h q = told-read r h q .inside
-
-pub less : (n i j : ℕ) → i ≤ j → j < n → n - (j + 1) < n - i
-less n i j l h = omega arith

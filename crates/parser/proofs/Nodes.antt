@@ -22,7 +22,8 @@ use Rattle.json.specs.Laws.{over-blank}
 use Rattle.json.proofs.Moves.{moves, dies, short, stays-none}
 use Rattle.json.proofs.Parts.{string-start, string-run, string-shut}
 use Rattle.json.proofs.Leaves.{quoted-of, scalar-string}
-use Rattle.parser.specs.Says.{Fits, Wrote, Quote, Ready, Atom, Names}
+use Rattle.parser.specs.Says.{Fits, Wrote, Quote, Ready, Atom, Colons, Names, Begins, Follows}
+use Rattle.parser.specs.declared.Next.the-variants as next
 use Rattle.parser.specs.declared.Walk.the-variants as walk
 
 -- three words are written at n
@@ -83,6 +84,31 @@ module _ {x : List ℕ} {at : ℕ} {r : Scan} (b : Quote x at) (s : ReadsString 
   pub text-bad : (t₀ t : List ℕ) (n q : ℕ) → r ≡ Bad q → Atom x t₀ t at n (walk.Bad q)
   text-bad t₀ t n q e = atom-bad x at r text-scalar t₀ t n q e
 
+-- a colon, at once or after blanks
+module _ (x : List ℕ) (at : ℕ) where
+  colon-at : {i : ℕ} → Stays blanks x at i → i < length x → getD x i 0 ≡ 58 → Colons x at (End (i + 1))
+  unfolding Colons
+  colon-at {i} y h c = record {
+    goes = λ p ms key ks. y .same _ tt ks ∙ moves x _ ks i _ _ h (colon-yes 32 x i _ c p ms _ ks);
+    more = omega (arith, y .low);
+    inside = omega arith;
+  }
+
+  pub colon-once : at < length x → getD x at 0 ≡ 58 → Colons x at (End (at + 1))
+  colon-once h c = colon-at (stays-none blanks x at (omega arith)) h c
+
+  module _ {i : ℕ} (k : Skips blanks isBlank x at i) where
+    pub colon-out : length x ≤ i → Colons x at (Bad i)
+    unfolding Colons
+    colon-out h = λ p ms key ks. k .stays .same _ tt ks ∙ short x _ ks i refl h
+
+    pub colon-wrong : i < length x → (getD x i 0 ≡ 58 → ⊥) → Colons x at (Bad i)
+    unfolding Colons
+    colon-wrong h c = λ p ms key ks. k .stays .same _ tt ks ∙ dies x _ ks i h (colon-no 32 x i _ (k .stop h) c p ms _ ks)
+
+    pub colon-there : i < length x → getD x i 0 ≡ 58 → Colons x at (End (i + 1))
+    colon-there h c = colon-at (k .stays) h c
+
 -- a name, after the blanks before it
 pub string-high : {x : List ℕ} {at e : ℕ} {r : Scan} → ReadsString x at r → r ≡ End e → e ≤ length x
 string-high {x} {at} {e} {r} s q = let w : Within (at + 1) (length x) (End e) = rw q at (s .past) in w .1
@@ -112,38 +138,22 @@ module _ {x : List ℕ} {at i : ℕ} (k : Skips blanks isBlank x at i) where
       unfolding charsOf closedOf
       called p ms ks = k .stays .same (name1 p ms) tt ks ∙ moves x (name1 p ms) ks i (chars (name p ms) i) ks l (name-quote 32 x i _ b p ms ks) ∙ (rw q at (s .reads .same (record { role = name p ms; begun = i }) ks))
 
-      -- its colon, after blanks or at once
-      module _ {j : ℕ} (y : Stays blanks x e j) where
-        colon-at : (t₀ t : List ℕ) (n : ℕ) → j < length x → getD x j 0 ≡ 58 → Wrote t₀ t n i e (n + 3) → Names x t₀ t at n (End (j + 1))
-        unfolding Names
-        colon-at t₀ t n h c w =
-            let lo = string-low s q in
-            let hi = string-high s q in
-            record {
-              key = record { place = i; end = e; raw = slice (i + 1) (e - 1) x };
-              stands = quoted-of (w .placed) (omega arith) hi b;
-              goes = λ p ms ks. called p ms ks ∙ y .same _ tt ks ∙ moves x _ ks j _ _ h (colon-yes 32 x j _ c p ms _ ks);
-              more = omega (arith, k .stays .low, y .low);
-              inside = omega arith;
-              long = w .long;
-              below = w .below;
-              above = w .above;
-            }
-
-      pub named-at-once : (t₀ t : List ℕ) (n : ℕ) → e < length x → getD x e 0 ≡ 58 → Wrote t₀ t n i e (n + 3) → Names x t₀ t at n (End (e + 1))
-      named-at-once t₀ t n h c w = colon-at (stays-none blanks x e (string-high s q)) t₀ t n h c w
-
-      module _ {j : ℕ} (k₂ : Skips blanks isBlank x e j) where
-        pub colon-out : (t₀ t : List ℕ) (n : ℕ) → length x ≤ j → Names x t₀ t at n (Bad j)
-        unfolding Names
-        colon-out t₀ t n h = λ p ms ks. called p ms ks ∙ k₂ .stays .same _ tt ks ∙ short x _ ks j refl h
-
-        pub colon-wrong : (t₀ t : List ℕ) (n : ℕ) → j < length x → (getD x j 0 ≡ 58 → ⊥) → Names x t₀ t at n (Bad j)
-        unfolding Names
-        colon-wrong t₀ t n h c = λ p ms ks. called p ms ks ∙ k₂ .stays .same _ tt ks ∙ dies x _ ks j h (colon-no 32 x j _ (k₂ .stop h) c p ms _ ks)
-
-        pub named : (t₀ t : List ℕ) (n : ℕ) → j < length x → getD x j 0 ≡ 58 → Wrote t₀ t n i e (n + 3) → Names x t₀ t at n (End (j + 1))
-        named t₀ t n h c w = colon-at (k₂ .stays) t₀ t n h c w
+      -- and its colon
+      pub named : (t₀ t : List ℕ) (n : ℕ) (v : Scan) → Wrote t₀ t n i e (n + 3) → Colons x e v → Names x t₀ t at n v
+      unfolding Names Colons
+      named t₀ t n (Bad p) w y = λ p ms ks. called p ms ks ∙ y p ms _ ks
+      named t₀ t n (End j) w y =
+          let lo = string-low s q in
+          record {
+            key = record { place = i; end = e; raw = slice (i + 1) (e - 1) x };
+            stands = quoted-of (w .placed) (omega arith) (string-high s q) b;
+            goes = λ p ms ks. called p ms ks ∙ y .goes p ms _ ks;
+            more = omega (arith, k .stays .low, y .more);
+            inside = y .inside;
+            long = w .long;
+            below = w .below;
+            above = w .above;
+          }
 
 -- a quote is no white space
 pub at-quote : {text : List ℕ} {at : ℕ} → at ≤ length text → getD text at 0 ≡ 34 → Skips blanks isBlank text at at
@@ -176,4 +186,35 @@ module _ {x : List ℕ} {at : ℕ} {r : Bool} (k : Typed x at r) (q : r ≡ true
       let z : at + 0 ≡ at = omega arith in
       let b : getD x at 0 ≡ 34 = rw z at (k .same q 0 (omega arith)) in
       let f : at + 6 + 1 ≡ at + 7 = omega arith in
-      rw f at (named-at-once (at-quote (omega arith) b) (omega arith) b type-string refl t₀ t n (omega arith) (k .same q 6 (omega arith)) w)
+      rw f at (named (at-quote (omega arith) b) (omega arith) b type-string refl t₀ t n _ w (colon-once x (at + 6) (omega arith) (k .same q 6 (omega arith))))
+
+-- what stands after blanks in a container that the byte c closes
+module _ {x : List ℕ} {at i : ℕ} (c : ℕ) (k : Skips blanks isBlank x at i) where
+  pub opens-out : length x ≤ i → Begins x at c (next.Bad i)
+  unfolding Begins
+  opens-out h = (k, h)
+
+  pub follows-out : length x ≤ i → Follows x at c (next.Bad i)
+  unfolding Follows
+  follows-out h = record { skips = k; wrong = λ l. absurd (omega arith) }
+
+  module _ (h : i < length x) where
+    pub opens-closed : getD x i 0 ≡ c → Begins x at c (next.Closed (i + 1))
+    unfolding Begins
+    opens-closed e = record { place = i; skips = k; there = h; byte = e; past = refl }
+
+    pub opens-more : (getD x i 0 ≡ c → ⊥) → Begins x at c (next.More i)
+    unfolding Begins
+    opens-more e = record { skips = k; there = h; byte = e }
+
+    pub follows-closed : getD x i 0 ≡ c → Follows x at c (next.Closed (i + 1))
+    unfolding Follows
+    follows-closed e = record { place = i; skips = k; there = h; byte = e; past = refl }
+
+    pub follows-comma : getD x i 0 ≡ 44 → Follows x at c (next.More (i + 1))
+    unfolding Follows
+    follows-comma e = record { place = i; skips = k; there = h; byte = e; past = refl }
+
+    pub follows-wrong : (getD x i 0 ≡ 44 → ⊥) → (getD x i 0 ≡ c → ⊥) → Follows x at c (next.Bad i)
+    unfolding Follows
+    follows-wrong e f = record { skips = k; wrong = λ l. (e, f) }

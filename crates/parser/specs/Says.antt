@@ -4,12 +4,14 @@ use mathlib.Core.Path.{_≡_}
 use mathlib.Core.List.{List, _∷_}
 use lib.ListN.{length, getD}
 use Rattle.json.specs.Tree.{Json, Members, Name}
-use Rattle.json.specs.Machine.{Frame, Mode, bad, tooDeep, object}
-use Rattle.json.specs.Machine.Mode.{want, name1, got}
+use Rattle.json.specs.Machine.{Frame, Mode, bad, tooDeep, object, isBlank}
+use Rattle.json.specs.Machine.Mode.{want, name1, colon, got}
 use Rattle.json.specs.Table.{size, Sub, Quoted}
-use Rattle.json.specs.Says.{from, Placed, Leaf}
+use Rattle.json.specs.Says.{from, Skips, blanks, Placed, Leaf}
 use Rattle.json.specs.declared.Scan.{Scan}
 use Rattle.json.specs.declared.Scan.the-variants as scan
+use Rattle.parser.specs.declared.Next.{Next}
+use Rattle.parser.specs.declared.Next.the-variants as next
 use Rattle.parser.specs.declared.Walk.{Walk}
 use Rattle.parser.specs.declared.Walk.the-variants as walk
 
@@ -79,6 +81,17 @@ Told x t₀ t m at levels most n (walk.Read e n′) = Read x t₀ t m at levels 
 Told x t₀ t m at levels most n (walk.Bad q) = (ks : List Frame) → length ks + levels ≡ most → from x m ks at ≡ bad q
 Told x t₀ t m at levels most n (walk.Deep q) = (ks : List Frame) → length ks + levels ≡ most → from x m ks at ≡ tooDeep q
 
+-- the colon after a name, up to before e
+pub record Coloned (x : List ℕ) (at e : ℕ) : Type 0 where
+  pub goes : (p : ℕ) (ms : Members) (key : Name) (ks : List Frame) → from x (colon p ms key) ks at ≡ from x want (object p ms key ∷ ks) e
+  pub more : at < e
+  pub inside : e ≤ length x
+
+-- what `colon` tells
+unfoldable pub Colons : List ℕ → ℕ → Scan → Type 0
+Colons x at (scan.End e) = Coloned x at e
+Colons x at (scan.Bad q) = (p : ℕ) (ms : Members) (key : Name) (ks : List Frame) → from x (colon p ms key) ks at ≡ bad q
+
 -- the name of a member and its colon, up to before e; its three words stand in the table from n on
 pub record Named (x t₀ t : List ℕ) (at n e : ℕ) : Type 0 where
   pub key : Name
@@ -94,6 +107,37 @@ pub record Named (x t₀ t : List ℕ) (at n e : ℕ) : Type 0 where
 unfoldable pub Names : List ℕ → List ℕ → List ℕ → ℕ → ℕ → Scan → Type 0
 Names x t₀ t at n (scan.End e) = Named x t₀ t at n e
 Names x t₀ t at n (scan.Bad q) = (p : ℕ) (ms : Members) (ks : List Frame) → from x (name1 p ms) ks at ≡ bad q
+
+-- after the blanks from at on stands the byte b, and e is one past it
+pub record Then (x : List ℕ) (at b e : ℕ) : Type 0 where
+  pub place : ℕ
+  pub skips : Skips blanks isBlank x at place
+  pub there : place < length x
+  pub byte : getD x place 0 ≡ b
+  pub past : place + 1 ≡ e
+
+-- after the blanks from at on stands, at i, another byte than c
+pub record Other (x : List ℕ) (at c i : ℕ) : Type 0 where
+  pub skips : Skips blanks isBlank x at i
+  pub there : i < length x
+  pub byte : getD x i 0 ≡ c → ⊥
+
+-- the blanks from at on end at q, where the text does, or where neither c nor a comma stands
+pub record Neither (x : List ℕ) (at c q : ℕ) : Type 0 where
+  pub skips : Skips blanks isBlank x at q
+  pub wrong : q < length x → (getD x q 0 ≡ 44 → ⊥) × (getD x q 0 ≡ c → ⊥)
+
+-- what `opening` tells: the byte c, or another, is the first that is no blank, or there is none
+unfoldable pub Begins : List ℕ → ℕ → ℕ → Next → Type 0
+Begins x at c (next.Closed e) = Then x at c e
+Begins x at c (next.More i) = Other x at c i
+Begins x at c (next.Bad q) = (Skips blanks isBlank x at q) × (length x ≤ q)
+
+-- what `after` tells: the byte c, or a comma, is the first that is no blank, or neither is
+unfoldable pub Follows : List ℕ → ℕ → ℕ → Next → Type 0
+Follows x at c (next.Closed e) = Then x at c e
+Follows x at c (next.More e) = Then x at 44 e
+Follows x at c (next.Bad q) = Neither x at c q
 
 -- a member, up to before e: its name, whose words stand in the table from n on, and its value, whose words follow, up to k
 pub record Membered (x t₀ t : List ℕ) (at levels n e k : ℕ) : Type 0 where

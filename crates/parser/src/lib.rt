@@ -6,7 +6,7 @@ ghost use Rattle.json.specs.Machine.{isBlank};
 ghost use Rattle.json.specs.Machine.Mode.{want, first, name0};
 ghost use Rattle.json.specs.Says.{blanks, Skips, Plain};
 ghost use Rattle.json.specs.Parse.{Tells};
-ghost use Rattle.parser.specs.Says.{Fits, Wrote, Quote, Atom, Ready, Opened, Told, Names, Member};
+ghost use Rattle.parser.specs.Says.{Fits, Wrote, Quote, Atom, Ready, Opened, Told, Colons, Names, Begins, Follows, Member};
 
 // What a value is: one past its last byte, and the first free word of the table after it; or the offset of a byte that no JSON text
 // has there, or of one that opens a level too many.
@@ -14,6 +14,14 @@ enum Walk {
     Read(usize, usize),
     Bad(usize),
     Deep(usize),
+}
+
+// What stands in a container after white space: the byte that closes it, and one past it; the start of what comes next; or the offset
+// of a byte that no JSON text has there.
+enum Next {
+    Closed(usize),
+    More(usize),
+    Bad(usize),
 }
 
 // Writes a node, the three words at i.
@@ -69,7 +77,27 @@ fn name_start(text: &[u8], at: usize) -> usize
     json::skip_blanks(text, at)
 }
 
-// The name of a member with its colon, which mostly follows at once, and its node at n.
+// The colon after a name, which mostly follows at once.
+fn colon(text: &[u8], at: usize) -> json::Scan
+    requires { ⌜ at ≤ length (now text) ⌝ }
+    ensures { λ r. ⌜ Colons (now (text .entry)) at r ⌝ }
+{
+    if at < text.len() {
+        if text[at] == b':' {
+            return json::Scan::End(at + 1);
+        }
+    }
+    let i = json::skip_blanks(text, at);
+    if i >= text.len() {
+        return json::Scan::Bad(i);
+    }
+    if text[i] != b':' {
+        return json::Scan::Bad(i);
+    }
+    json::Scan::End(i + 1)
+}
+
+// The name of a member with its colon, and its node at n.
 fn member_name(text: &[u8], at: usize, table: &mut [u32], n: usize) -> json::Scan
     requires { ⌜ Ready (now text) (now table) at 0 32 n ⌝ }
     ensures { λ r. ⌜ Names (now (text .entry)) (now (table .entry)) (now (table .exit)) at n r ⌝ }
@@ -90,21 +118,43 @@ fn member_name(text: &[u8], at: usize, table: &mut [u32], n: usize) -> json::Sca
         json::Scan::Bad(q) => json::Scan::Bad(q),
         json::Scan::End(e) => {
             put_node(table, n, i, e, n + 3);
-            if e < text.len() {
-                if text[e] == b':' {
-                    return json::Scan::End(e + 1);
-                }
-            }
-            let j = json::skip_blanks(text, e);
-            if j >= text.len() {
-                return json::Scan::Bad(j);
-            }
-            if text[j] != b':' {
-                return json::Scan::Bad(j);
-            }
-            json::Scan::End(j + 1)
+            colon(text, e)
         }
     }
+}
+
+// What follows the byte that opens a container, which the byte `close` closes.
+fn opening(text: &[u8], at: usize, close: u8) -> Next
+    requires { ⌜ at ≤ length (now text) ⌝ }
+    ensures { λ r. ⌜ Begins (now (text .entry)) at close r ⌝ }
+{
+    let i = json::skip_blanks(text, at);
+    if i >= text.len() {
+        return Next::Bad(i);
+    }
+    if text[i] == close {
+        return Next::Closed(i + 1);
+    }
+    Next::More(i)
+}
+
+// What follows a value in a container, which the byte `close` closes: more does after a comma.
+fn after(text: &[u8], at: usize, close: u8) -> Next
+    requires { ⌜ at ≤ length (now text) ⌝ }
+    ensures { λ r. ⌜ Follows (now (text .entry)) at close r ⌝ }
+{
+    let i = json::skip_blanks(text, at);
+    if i >= text.len() {
+        return Next::Bad(i);
+    }
+    let b = text[i];
+    if b == close {
+        return Next::Closed(i + 1);
+    }
+    if b != b',' {
+        return Next::Bad(i);
+    }
+    Next::More(i + 1)
 }
 
 // A value, where so many levels may still be opened, and its words from n on.
@@ -163,39 +213,44 @@ fn array(text: &[u8], at: usize, levels: usize, table: &mut [u32], n: usize) -> 
     requires { ⌜ Opened 91 (now text) (now table) at levels n ⌝ }
     ensures { λ r. ⌜ Told (now (text .entry)) (now (table .entry)) (now (table .exit)) (first at) (at + 1) levels 31 n r ⌝ }
 {
-    let mut i = json::skip_blanks(text, at + 1);
-    if i >= text.len() {
-        return Walk::Bad(i);
-    }
-    if text[i] == b']' {
-        put_node(table, n, at, i + 1, n + 3);
-        return Walk::Read(i + 1, n + 3);
-    }
-    let mut m = n + 3;
-    loop {
-        let r = element(text, i, levels, table, m);
-        match r {
-            Walk::Bad(q) => {
-                return Walk::Bad(q);
-            }
-            Walk::Deep(q) => {
-                return Walk::Deep(q);
-            }
-            Walk::Read(e, k) => {
-                let j = json::skip_blanks(text, e);
-                if j >= text.len() {
-                    return Walk::Bad(j);
+    let o = opening(text, at + 1, b']');
+    match o {
+        Next::Bad(q) => {
+            return Walk::Bad(q);
+        }
+        Next::Closed(e) => {
+            put_node(table, n, at, e, n + 3);
+            return Walk::Read(e, n + 3);
+        }
+        Next::More(s) => {
+            let mut i = s;
+            let mut m = n + 3;
+            loop {
+                let r = element(text, i, levels, table, m);
+                match r {
+                    Walk::Bad(q) => {
+                        return Walk::Bad(q);
+                    }
+                    Walk::Deep(q) => {
+                        return Walk::Deep(q);
+                    }
+                    Walk::Read(e, k) => {
+                        let a = after(text, e, b']');
+                        match a {
+                            Next::Bad(q) => {
+                                return Walk::Bad(q);
+                            }
+                            Next::Closed(j) => {
+                                put_node(table, n, at, j, k);
+                                return Walk::Read(j, k);
+                            }
+                            Next::More(j) => {
+                                i = j;
+                                m = k;
+                            }
+                        }
+                    }
                 }
-                let b = text[j];
-                if b == b']' {
-                    put_node(table, n, at, j + 1, k);
-                    return Walk::Read(j + 1, k);
-                }
-                if b != b',' {
-                    return Walk::Bad(j);
-                }
-                i = j + 1;
-                m = k;
             }
         }
     }
@@ -206,39 +261,44 @@ fn object(text: &[u8], at: usize, levels: usize, table: &mut [u32], n: usize) ->
     requires { ⌜ Opened 123 (now text) (now table) at levels n ⌝ }
     ensures { λ r. ⌜ Told (now (text .entry)) (now (table .entry)) (now (table .exit)) (name0 at) (at + 1) levels 31 n r ⌝ }
 {
-    let mut i = json::skip_blanks(text, at + 1);
-    if i >= text.len() {
-        return Walk::Bad(i);
-    }
-    if text[i] == b'}' {
-        put_node(table, n, at, i + 1, n + 3);
-        return Walk::Read(i + 1, n + 3);
-    }
-    let mut m = n + 3;
-    loop {
-        let r = member(text, i, levels, table, m);
-        match r {
-            Walk::Bad(q) => {
-                return Walk::Bad(q);
-            }
-            Walk::Deep(q) => {
-                return Walk::Deep(q);
-            }
-            Walk::Read(e, k) => {
-                let j = json::skip_blanks(text, e);
-                if j >= text.len() {
-                    return Walk::Bad(j);
+    let o = opening(text, at + 1, b'}');
+    match o {
+        Next::Bad(q) => {
+            return Walk::Bad(q);
+        }
+        Next::Closed(e) => {
+            put_node(table, n, at, e, n + 3);
+            return Walk::Read(e, n + 3);
+        }
+        Next::More(s) => {
+            let mut i = s;
+            let mut m = n + 3;
+            loop {
+                let r = member(text, i, levels, table, m);
+                match r {
+                    Walk::Bad(q) => {
+                        return Walk::Bad(q);
+                    }
+                    Walk::Deep(q) => {
+                        return Walk::Deep(q);
+                    }
+                    Walk::Read(e, k) => {
+                        let a = after(text, e, b'}');
+                        match a {
+                            Next::Bad(q) => {
+                                return Walk::Bad(q);
+                            }
+                            Next::Closed(j) => {
+                                put_node(table, n, at, j, k);
+                                return Walk::Read(j, k);
+                            }
+                            Next::More(j) => {
+                                i = j;
+                                m = k;
+                            }
+                        }
+                    }
                 }
-                let b = text[j];
-                if b == b'}' {
-                    put_node(table, n, at, j + 1, k);
-                    return Walk::Read(j + 1, k);
-                }
-                if b != b',' {
-                    return Walk::Bad(j);
-                }
-                i = j + 1;
-                m = k;
             }
         }
     }
