@@ -1,5 +1,5 @@
 -- Values and containers: what holds for every stack that the levels left allow, and the words that are written.
-use mathlib.Core.Path.{_≡_, refl, sym, subst, _∙_}
+use mathlib.Core.Path.{_≡_, refl, sym, _∙_}
 use mathlib.Core.Bool.{Bool, true, false}
 use mathlib.Core.List.{List, [], _∷_}
 use Prim.Native.Nat.{ℕ, _+_, _-_, _*_, _≤_, _<_}
@@ -233,9 +233,16 @@ module _ {x : List ℕ} {at e : ℕ} (c : ℕ) (r : Next) where
   unfolding Follows
   follows-bad k q = rw q at k
 
--- what holds one past a byte
-one-past : {x : List ℕ} {at b e : ℕ} (P : ℕ → Type 0) → ((i : ℕ) → Skips blanks isBlank x at i → i < length x → getD x i 0 ≡ b → P (i + 1)) → Then x at b e → P e
-one-past P f a = subst P (a .past) (f (a .place) (a .skips) (a .there) (a .byte))
+-- the byte that was found stands in the text
+module _ (x : List ℕ) (at c : ℕ) {e : ℕ} (r : Next) where
+  pub begins-there : Begins x at c r → r ≡ next.Closed e → e < length x
+  begins-there k q = begins-closed c r k q .there
+
+  pub follows-there : Follows x at c r → r ≡ next.Closed e → e < length x
+  follows-there k q = follows-end c r k q .there
+
+  pub comma-there : Follows x at c r → r ≡ next.More e → e < length x
+  comma-there k q = follows-more c r k q .there
 
 -- the text ends at an offset, or goes on there
 ends-or : (x : List ℕ) (i : ℕ) {P : Type 0} → (length x ≤ i → P) → (i < length x → P) → P
@@ -255,8 +262,8 @@ module _ {b : ℕ} {x t₀ : List ℕ} {at levels n e : ℕ} (c : ℕ) (m : Mode
   container-out : ((ks : List Frame) (i : ℕ) → finish 32 x m ks i ≡ bad i) → (t : List ℕ) → r ≡ next.Bad e → Told x t₀ t m (at + 1) levels 31 n (walk.Bad e)
   container-out f t q = let h = begins-bad c r k q in level-out (enters o (h .0) m y) t (h .1) (λ ks. f ks _)
 
-  container-fits : r ≡ next.Closed e → Fits t₀ n at e (n + 3)
-  container-fits q = one-past (λ e. Fits t₀ n at e (n + 3)) (λ i s h z. level-fits (enters o s m y) (omega arith) h) (begins-closed c r k q)
+  container-fits : r ≡ next.Closed e → Fits t₀ n at (e + 1) (n + 3)
+  container-fits q = let h = begins-closed c r k q in level-fits (enters o (h .skips) m y) (omega arith) (h .there)
 
 -- an array: its next element is to come at i; or its last one was read, and the byte at i is no blank
 pub record Elements (x t₀ t : List ℕ) (at levels n i k : ℕ) : Type 0 where
@@ -276,17 +283,17 @@ module _ {x t₀ : List ℕ} {at levels n e : ℕ} (o : Opened 91 x t₀ at leve
   pub array-out : (t : List ℕ) → r ≡ next.Bad e → Told x t₀ t (first at) (at + 1) levels 31 n (walk.Bad e)
   array-out = container-out 93 (first at) tt o r k (short-stack x (first at) (λ i. refl))
 
-  pub array-empty-fits : r ≡ next.Closed e → Fits t₀ n at e (n + 3)
+  pub array-empty-fits : r ≡ next.Closed e → Fits t₀ n at (e + 1) (n + 3)
   array-empty-fits = container-fits 93 (first at) tt o r k
 
-  pub array-empty : (t : List ℕ) → r ≡ next.Closed e → Wrote t₀ t n at e (n + 3) → Told x t₀ t (first at) (at + 1) levels 31 n (walk.Read e (n + 3))
+  pub array-empty : (t : List ℕ) → r ≡ next.Closed e → Wrote t₀ t n at (e + 1) (n + 3) → Told x t₀ t (first at) (at + 1) levels 31 n (walk.Read (e + 1) (n + 3))
   unfolding size sizes
-  array-empty t q =
-      one-past (λ e. Wrote t₀ t n at e (n + 3) → Told x t₀ t (first at) (at + 1) levels 31 n (walk.Read e (n + 3)))
-      (λ i s h z w.
-      let l = s .stays .low in
-      level-closes (enters o s (first at) tt) (omega arith) h (first-close 32 x i _ z at) w (arr (words-of (w .placed) (omega arith) (omega arith) (o .byte)) nil) refl)
-      (begins-closed 93 r k q)
+  array-empty t q w =
+      let h = begins-closed 93 r k q in
+      let l = h .skips .stays .low in
+      level-closes (enters o (h .skips) (first at) tt) (omega arith) (h .there) (first-close 32 x e _ (h .byte) at) w
+      (arr (words-of (w .placed) (omega arith) (omega (arith, h .there)) (o .byte)) nil)
+      refl
 
   pub array-starts : r ≡ next.More e → Elements x t₀ t₀ at levels n e (n + 3)
   unfolding sizes
@@ -328,29 +335,9 @@ module _ {x t₀ t₁ : List ℕ} {at levels n i k : ℕ} (g : Elements x t₀ t
             ends = omega (arith, sizes-◂ (g .elements) (v .value), g .ends, v .ends);
           }
 
-      array-shut : (t′ : List ℕ) → j < length x → getD x j 0 ≡ 93 → Wrote t₂ t′ n at (j + 1) k′ → Told x t₀ t′ (first at) (at + 1) levels 31 n (walk.Read (j + 1) k′)
-      unfolding size
-      array-shut t′ h z w =
-          let a = array-turn in
-          let l = a .level in
-          let q : n + (3 + sizes (a .elements ◂ a .value)) ≡ k′ = omega (arith, a .ends) in
-          level-closes l (omega arith) h (λ ks. array-close 32 x j _ _ _ _ ks z) w
-          (arr (rw q (words-of (w .placed) (omega (arith, l .past)) (omega arith) (l .opened .byte))) (same-subs (w .long) (a .stand) (λ y a z. w .above y (omega arith))))
-          q
-
-      array-comma-read : j < length x → getD x j 0 ≡ 44 → Elements x t₀ t₂ at levels n (j + 1) k′
-      array-comma-read h z =
-          let a = array-turn in
-          record {
-            elements = a .elements ◂ a .value;
-            level = level-byte (a .level) want (λ ks. array at (a .elements ◂ a .value) ∷ ks) (omega arith) h (λ ks. array-comma 32 x j _ _ _ _ ks z);
-            stand = a .stand;
-            ends = a .ends;
-          }
-
     module _ (a : Next) (s : Follows x e 93 a) where
-      pub element-less : {j : ℕ} → a ≡ next.More j → length x - j < length x - i
-      element-less z = let f = follows-more 93 a s z in omega (arith, told-read r h q .more, f .skips .stays .low, f .there, f .past)
+      pub element-less : {j : ℕ} → a ≡ next.More j → length x - (j + 1) < length x - i
+      element-less z = let f = follows-more 93 a s z in omega (arith, told-read r h q .more, f .skips .stays .low, f .there)
 
       pub array-wrong : {j : ℕ} → a ≡ next.Bad j → Told x t₀ t₂ (first at) (at + 1) levels 31 n (walk.Bad j)
       array-wrong {j} z =
@@ -358,15 +345,31 @@ module _ {x t₀ t₁ : List ℕ} {at levels n i k : ℕ} (g : Elements x t₀ t
           let l = array-turn (f .skips) .level in
           ends-or x j (λ u. level-out l t₂ u (λ ks. refl)) (λ u. level-dies l t₂ u (λ ks. array-no 32 x j _ _ _ _ ks (f .skips .stop u) (f .wrong u .0) (f .wrong u .1)))
 
-      pub array-fits : {j : ℕ} → a ≡ next.Closed j → Fits t₂ n at j k′
-      array-fits z = one-past (λ j. Fits t₂ n at j k′) (λ j y u v. level-fits (array-turn y .level) (omega arith) u) (follows-end 93 a s z)
+      pub array-more : {j : ℕ} → a ≡ next.More j → Elements x t₀ t₂ at levels n (j + 1) k′
+      array-more {j} z =
+          let f = follows-more 93 a s z in
+          let b = array-turn (f .skips) in
+          record {
+            elements = b .elements ◂ b .value;
+            level = level-byte (b .level) want (λ ks. array at (b .elements ◂ b .value) ∷ ks) (omega arith) (f .there) (λ ks. array-comma 32 x j _ _ _ _ ks (f .byte));
+            stand = b .stand;
+            ends = b .ends;
+          }
 
-      pub array-more : {j : ℕ} → a ≡ next.More j → Elements x t₀ t₂ at levels n j k′
-      array-more z = one-past (λ j. Elements x t₀ t₂ at levels n j k′) (λ j y u v. array-comma-read y u v) (follows-more 93 a s z)
+      module _ {j : ℕ} (z : a ≡ next.Closed j) where
+        pub array-fits : Fits t₂ n at (j + 1) k′
+        array-fits = let f = follows-end 93 a s z in level-fits (array-turn (f .skips) .level) (omega arith) (f .there)
 
-      pub array-closes : (t′ : List ℕ) {j : ℕ} → a ≡ next.Closed j → Wrote t₂ t′ n at j k′ → Told x t₀ t′ (first at) (at + 1) levels 31 n (walk.Read j k′)
-      array-closes t′ z =
-          one-past (λ j. Wrote t₂ t′ n at j k′ → Told x t₀ t′ (first at) (at + 1) levels 31 n (walk.Read j k′)) (λ j y u v w. array-shut y t′ u v w) (follows-end 93 a s z)
+        pub array-closes : (t′ : List ℕ) → Wrote t₂ t′ n at (j + 1) k′ → Told x t₀ t′ (first at) (at + 1) levels 31 n (walk.Read (j + 1) k′)
+        unfolding size
+        array-closes t′ w =
+            let f = follows-end 93 a s z in
+            let b = array-turn (f .skips) in
+            let l = b .level in
+            let q : n + (3 + sizes (b .elements ◂ b .value)) ≡ k′ = omega (arith, b .ends) in
+            level-closes l (omega arith) (f .there) (λ ks. array-close 32 x j _ _ _ _ ks (f .byte)) w
+            (arr (rw q (words-of (w .placed) (omega (arith, l .past)) (omega (arith, f .there)) (l .opened .byte))) (same-subs (w .long) (b .stand) (λ y a z. w .above y (omega arith))))
+            q
 
 -- an object: a name is to come at i; or its last member was read, and the byte at i is no blank
 pub record Fielded (x t₀ t : List ℕ) (at levels n i k : ℕ) : Type 0 where
@@ -387,17 +390,17 @@ module _ {x t₀ : List ℕ} {at levels n e : ℕ} (o : Opened 123 x t₀ at lev
   pub object-out : (t : List ℕ) → r ≡ next.Bad e → Told x t₀ t (name0 at) (at + 1) levels 31 n (walk.Bad e)
   object-out = container-out 125 (name0 at) tt o r k (short-stack x (name0 at) (λ i. refl))
 
-  pub object-empty-fits : r ≡ next.Closed e → Fits t₀ n at e (n + 3)
+  pub object-empty-fits : r ≡ next.Closed e → Fits t₀ n at (e + 1) (n + 3)
   object-empty-fits = container-fits 125 (name0 at) tt o r k
 
-  pub object-empty : (t : List ℕ) → r ≡ next.Closed e → Wrote t₀ t n at e (n + 3) → Told x t₀ t (name0 at) (at + 1) levels 31 n (walk.Read e (n + 3))
+  pub object-empty : (t : List ℕ) → r ≡ next.Closed e → Wrote t₀ t n at (e + 1) (n + 3) → Told x t₀ t (name0 at) (at + 1) levels 31 n (walk.Read (e + 1) (n + 3))
   unfolding size widths
-  object-empty t q =
-      one-past (λ e. Wrote t₀ t n at e (n + 3) → Told x t₀ t (name0 at) (at + 1) levels 31 n (walk.Read e (n + 3)))
-      (λ i s h z w.
-      let l = s .stays .low in
-      level-closes (enters o s (name0 at) tt) (omega arith) h (name0-close 32 x i _ z at) w (obj (words-of (w .placed) (omega arith) (omega arith) (o .byte)) last) refl)
-      (begins-closed 125 r k q)
+  object-empty t q w =
+      let h = begins-closed 125 r k q in
+      let l = h .skips .stays .low in
+      level-closes (enters o (h .skips) (name0 at) tt) (omega arith) (h .there) (name0-close 32 x e _ (h .byte) at) w
+      (obj (words-of (w .placed) (omega arith) (omega (arith, h .there)) (o .byte)) last)
+      refl
 
   pub object-starts : r ≡ next.More e → Fielded x t₀ t₀ at levels n e (n + 3)
   unfolding widths
@@ -491,29 +494,9 @@ module _ {x t₀ t₁ : List ℕ} {at levels n i k : ℕ} (g : Fielded x t₀ t�
             ends = omega (arith, widths-with (g .members) (v .key) (v .value), g .ends, v .ends);
           }
 
-      object-shut : (t′ : List ℕ) → j < length x → getD x j 0 ≡ 125 → Wrote t₂ t′ n at (j + 1) k′ → Told x t₀ t′ (name0 at) (at + 1) levels 31 n (walk.Read (j + 1) k′)
-      unfolding size
-      object-shut t′ h z w =
-          let a = object-turn in
-          let l = a .level in
-          let q : n + (3 + widths (with (a .members) (a .key) (a .value))) ≡ k′ = omega (arith, a .ends) in
-          level-closes l (omega arith) h (λ ks. object-close 32 x j _ _ _ _ _ ks z) w
-          (obj (rw q (words-of (w .placed) (omega (arith, l .past)) (omega arith) (l .opened .byte))) (same-fields (w .long) (a .stand) (λ y a z. w .above y (omega arith))))
-          q
-
-      object-comma-read : j < length x → getD x j 0 ≡ 44 → Fielded x t₀ t₂ at levels n (j + 1) k′
-      object-comma-read h z =
-          let a = object-turn in
-          record {
-            members = with (a .members) (a .key) (a .value);
-            level = level-byte (a .level) (name1 at (with (a .members) (a .key) (a .value))) (λ ks. ks) (omega arith) h (λ ks. object-comma 32 x j _ _ _ _ _ ks z);
-            stand = a .stand;
-            ends = a .ends;
-          }
-
     module _ (a : Next) (s : Follows x e 125 a) where
-      pub member-less : {j : ℕ} → a ≡ next.More j → length x - j < length x - i
-      member-less z = let f = follows-more 125 a s z in omega (arith, member-of r h q .more, f .skips .stays .low, f .there, f .past)
+      pub member-less : {j : ℕ} → a ≡ next.More j → length x - (j + 1) < length x - i
+      member-less z = let f = follows-more 125 a s z in omega (arith, member-of r h q .more, f .skips .stays .low, f .there)
 
       pub object-wrong : {j : ℕ} → a ≡ next.Bad j → Told x t₀ t₂ (name0 at) (at + 1) levels 31 n (walk.Bad j)
       object-wrong {j} z =
@@ -521,15 +504,31 @@ module _ {x t₀ t₁ : List ℕ} {at levels n i k : ℕ} (g : Fielded x t₀ t�
           let l = object-turn (f .skips) .level in
           ends-or x j (λ u. level-out l t₂ u (λ ks. refl)) (λ u. level-dies l t₂ u (λ ks. object-no 32 x j _ _ _ _ _ ks (f .skips .stop u) (f .wrong u .0) (f .wrong u .1)))
 
-      pub object-fits : {j : ℕ} → a ≡ next.Closed j → Fits t₂ n at j k′
-      object-fits z = one-past (λ j. Fits t₂ n at j k′) (λ j y u v. level-fits (object-turn y .level) (omega arith) u) (follows-end 125 a s z)
+      pub object-more : {j : ℕ} → a ≡ next.More j → Fielded x t₀ t₂ at levels n (j + 1) k′
+      object-more {j} z =
+          let f = follows-more 125 a s z in
+          let b = object-turn (f .skips) in
+          record {
+            members = with (b .members) (b .key) (b .value);
+            level = level-byte (b .level) (name1 at (with (b .members) (b .key) (b .value))) (λ ks. ks) (omega arith) (f .there) (λ ks. object-comma 32 x j _ _ _ _ _ ks (f .byte));
+            stand = b .stand;
+            ends = b .ends;
+          }
 
-      pub object-more : {j : ℕ} → a ≡ next.More j → Fielded x t₀ t₂ at levels n j k′
-      object-more z = one-past (λ j. Fielded x t₀ t₂ at levels n j k′) (λ j y u v. object-comma-read y u v) (follows-more 125 a s z)
+      module _ {j : ℕ} (z : a ≡ next.Closed j) where
+        pub object-fits : Fits t₂ n at (j + 1) k′
+        object-fits = let f = follows-end 125 a s z in level-fits (object-turn (f .skips) .level) (omega arith) (f .there)
 
-      pub object-closes : (t′ : List ℕ) {j : ℕ} → a ≡ next.Closed j → Wrote t₂ t′ n at j k′ → Told x t₀ t′ (name0 at) (at + 1) levels 31 n (walk.Read j k′)
-      object-closes t′ z =
-          one-past (λ j. Wrote t₂ t′ n at j k′ → Told x t₀ t′ (name0 at) (at + 1) levels 31 n (walk.Read j k′)) (λ j y u v w. object-shut y t′ u v w) (follows-end 125 a s z)
+        pub object-closes : (t′ : List ℕ) → Wrote t₂ t′ n at (j + 1) k′ → Told x t₀ t′ (name0 at) (at + 1) levels 31 n (walk.Read (j + 1) k′)
+        unfolding size
+        object-closes t′ w =
+            let f = follows-end 125 a s z in
+            let b = object-turn (f .skips) in
+            let l = b .level in
+            let q : n + (3 + widths (with (b .members) (b .key) (b .value))) ≡ k′ = omega (arith, b .ends) in
+            level-closes l (omega arith) (f .there) (λ ks. object-close 32 x j _ _ _ _ _ ks (f .byte)) w
+            (obj (rw q (words-of (w .placed) (omega (arith, l .past)) (omega (arith, f .there)) (l .opened .byte))) (same-fields (w .long) (b .stand) (λ y a z. w .above y (omega arith))))
+            q
 
 -- the whole text
 from-start : (x : List ℕ) → from x want [] 0 ≡ read x

@@ -199,21 +199,21 @@ module _ {x : List ℕ} {at i : ℕ} (c : ℕ) (k : Skips blanks isBlank x at i)
   follows-out h = record { skips = k; wrong = λ l. absurd (omega arith) }
 
   module _ (h : i < length x) where
-    pub opens-closed : getD x i 0 ≡ c → Begins x at c (next.Closed (i + 1))
+    pub opens-closed : getD x i 0 ≡ c → Begins x at c (next.Closed i)
     unfolding Begins
-    opens-closed e = record { place = i; skips = k; there = h; byte = e; past = refl }
+    opens-closed e = record { skips = k; there = h; byte = e }
 
     pub opens-more : (getD x i 0 ≡ c → ⊥) → Begins x at c (next.More i)
     unfolding Begins
     opens-more e = record { skips = k; there = h; byte = e }
 
-    pub follows-closed : getD x i 0 ≡ c → Follows x at c (next.Closed (i + 1))
+    pub follows-closed : getD x i 0 ≡ c → Follows x at c (next.Closed i)
     unfolding Follows
-    follows-closed e = record { place = i; skips = k; there = h; byte = e; past = refl }
+    follows-closed e = record { skips = k; there = h; byte = e }
 
-    pub follows-comma : getD x i 0 ≡ 44 → Follows x at c (next.More (i + 1))
+    pub follows-comma : getD x i 0 ≡ 44 → Follows x at c (next.More i)
     unfolding Follows
-    follows-comma e = record { place = i; skips = k; there = h; byte = e; past = refl }
+    follows-comma e = record { skips = k; there = h; byte = e }
 
     pub follows-wrong : (getD x i 0 ≡ 44 → ⊥) → (getD x i 0 ≡ c → ⊥) → Follows x at c (next.Bad i)
     unfolding Follows

@@ -108,13 +108,11 @@ unfoldable pub Names : List ℕ → List ℕ → List ℕ → ℕ → ℕ → Sc
 Names x t₀ t at n (scan.End e) = Named x t₀ t at n e
 Names x t₀ t at n (scan.Bad q) = (p : ℕ) (ms : Members) (ks : List Frame) → from x (name1 p ms) ks at ≡ bad q
 
--- after the blanks from at on stands the byte b, and e is one past it
-pub record Then (x : List ℕ) (at b e : ℕ) : Type 0 where
-  pub place : ℕ
-  pub skips : Skips blanks isBlank x at place
-  pub there : place < length x
-  pub byte : getD x place 0 ≡ b
-  pub past : place + 1 ≡ e
+-- after the blanks from at on stands, at i, the byte b
+pub record Then (x : List ℕ) (at b i : ℕ) : Type 0 where
+  pub skips : Skips blanks isBlank x at i
+  pub there : i < length x
+  pub byte : getD x i 0 ≡ b
 
 -- after the blanks from at on stands, at i, another byte than c
 pub record Other (x : List ℕ) (at c i : ℕ) : Type 0 where
@@ -129,14 +127,14 @@ pub record Neither (x : List ℕ) (at c q : ℕ) : Type 0 where
 
 -- what `opening` tells: the byte c, or another, is the first that is no blank, or there is none
 unfoldable pub Begins : List ℕ → ℕ → ℕ → Next → Type 0
-Begins x at c (next.Closed e) = Then x at c e
+Begins x at c (next.Closed i) = Then x at c i
 Begins x at c (next.More i) = Other x at c i
 Begins x at c (next.Bad q) = (Skips blanks isBlank x at q) × (length x ≤ q)
 
 -- what `after` tells: the byte c, or a comma, is the first that is no blank, or neither is
 unfoldable pub Follows : List ℕ → ℕ → ℕ → Next → Type 0
-Follows x at c (next.Closed e) = Then x at c e
-Follows x at c (next.More e) = Then x at 44 e
+Follows x at c (next.Closed i) = Then x at c i
+Follows x at c (next.More i) = Then x at 44 i
 Follows x at c (next.Bad q) = Neither x at c q
 
 -- a member, up to before e: its name, whose words stand in the table from n on, and its value, whose words follow, up to k

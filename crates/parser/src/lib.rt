@@ -16,8 +16,8 @@ enum Walk {
     Deep(usize),
 }
 
-// What stands in a container after white space: the byte that closes it, and one past it; the start of what comes next; or the offset
-// of a byte that no JSON text has there.
+// What stands in a container after white space, at an offset: the byte that closes it; what there is more of it; or a byte that no JSON
+// text has there. One offset for all, so that the compiler need not choose between two.
 enum Next {
     Closed(usize),
     More(usize),
@@ -133,12 +133,12 @@ fn opening(text: &[u8], at: usize, close: u8) -> Next
         return Next::Bad(i);
     }
     if text[i] == close {
-        return Next::Closed(i + 1);
+        return Next::Closed(i);
     }
     Next::More(i)
 }
 
-// What follows a value in a container, which the byte `close` closes: more does after a comma.
+// What follows a value in a container, which the byte `close` closes: a comma, if there is more.
 fn after(text: &[u8], at: usize, close: u8) -> Next
     requires { ⌜ at ≤ length (now text) ⌝ }
     ensures { λ r. ⌜ Follows (now (text .entry)) at close r ⌝ }
@@ -149,12 +149,12 @@ fn after(text: &[u8], at: usize, close: u8) -> Next
     }
     let b = text[i];
     if b == close {
-        return Next::Closed(i + 1);
+        return Next::Closed(i);
     }
     if b != b',' {
         return Next::Bad(i);
     }
-    Next::More(i + 1)
+    Next::More(i)
 }
 
 // A value, where so many levels may still be opened, and its words from n on.
@@ -219,8 +219,9 @@ fn array(text: &[u8], at: usize, levels: usize, table: &mut [u32], n: usize) -> 
             return Walk::Bad(q);
         }
         Next::Closed(e) => {
-            put_node(table, n, at, e, n + 3);
-            return Walk::Read(e, n + 3);
+            let end = e + 1;
+            put_node(table, n, at, end, n + 3);
+            return Walk::Read(end, n + 3);
         }
         Next::More(s) => {
             let mut i = s;
@@ -241,11 +242,12 @@ fn array(text: &[u8], at: usize, levels: usize, table: &mut [u32], n: usize) -> 
                                 return Walk::Bad(q);
                             }
                             Next::Closed(j) => {
-                                put_node(table, n, at, j, k);
-                                return Walk::Read(j, k);
+                                let end = j + 1;
+                                put_node(table, n, at, end, k);
+                                return Walk::Read(end, k);
                             }
                             Next::More(j) => {
-                                i = j;
+                                i = j + 1;
                                 m = k;
                             }
                         }
@@ -267,8 +269,9 @@ fn object(text: &[u8], at: usize, levels: usize, table: &mut [u32], n: usize) ->
             return Walk::Bad(q);
         }
         Next::Closed(e) => {
-            put_node(table, n, at, e, n + 3);
-            return Walk::Read(e, n + 3);
+            let end = e + 1;
+            put_node(table, n, at, end, n + 3);
+            return Walk::Read(end, n + 3);
         }
         Next::More(s) => {
             let mut i = s;
@@ -289,11 +292,12 @@ fn object(text: &[u8], at: usize, levels: usize, table: &mut [u32], n: usize) ->
                                 return Walk::Bad(q);
                             }
                             Next::Closed(j) => {
-                                put_node(table, n, at, j, k);
-                                return Walk::Read(j, k);
+                                let end = j + 1;
+                                put_node(table, n, at, end, k);
+                                return Walk::Read(end, k);
                             }
                             Next::More(j) => {
-                                i = j;
+                                i = j + 1;
                                 m = k;
                             }
                         }

@@ -1,10 +1,11 @@
 -- The proof of the cycle of calls {array, element, item, member, object, value}. The measure goes by the levels left: four times as many for a value, one more for an item, two more for an element or a member, and three more for a container.
 -- A container's loop knows that from its opening on the machine comes to where the next value, or the next name, starts, and that the words of those before stand in the table.
 use Prim.Native.Nat.{ℕ, _+_, _-_, _*_, _<_}
+use native.Mathlib.Omega.{arith}
 use lib.ListN.{length}
 use borrow.Fn.Kinds.{In}
 use borrow.Fn.PlainCycle.{Measures, is, falls, and}
-use Rattle.parser.proofs.Growth.{Elements, Fielded}
+use Rattle.parser.proofs.Growth.{Elements, Fielded, begins-there, follows-there, comma-there}
 use Rattle.parser.proofs.Rules.{walks}
 use Rattle.parser.proofs.array.Reads as array
 use Rattle.parser.proofs.array.Kinds as array-kinds
@@ -124,11 +125,15 @@ pub +array+element+item+member+object+value-spec : {M : Type 1} → statement M
 +array+element+item+member+object+value-spec =
     close μ-array μ-element μ-item μ-member μ-object μ-value
     (λ t. array-lts.spec (array-calls t) (array-at t) array.Post array-Inv array-μ
+    (λ c. search walks) (λ c κs. search walks) (λ c. search walks) (λ c. search walks) (λ c. search walks)
+    (λ c. omega (arith, begins-there _ _ 93 _ (c .before .before .before .opening .ensures) (c .before .o2 .given .1)))
     (λ c. search walks) (λ c κs. search walks) (λ c. search walks) (λ c. search walks) (λ c. search walks) (λ c. search walks)
-    (λ c κs. search walks) (λ c. search walks) (λ c. search walks) (λ c. search walks) (λ c. search walks) (λ c. search walks)
-    (λ c. search walks) (λ c κs. search walks) (λ c. search walks) (λ c. search walks) (λ c. search walks) (λ c. search walks)
-    (λ c. search walks) (λ c. search walks) (λ c. search walks) (λ c κs. search walks) (λ c. search walks) (λ c. search walks)
     (λ c. search walks) (λ c. search walks) (λ c κs. search walks) (λ c. search walks) (λ c. search walks) (λ c. search walks)
+    (λ c. search walks) (λ c. search walks) (λ c. search walks) (λ c. search walks) (λ c κs. search walks) (λ c. search walks)
+    (λ c. search walks) (λ c. search walks) (λ c. search walks)
+    (λ c. omega (arith, follows-there _ _ 93 _ (c .before .before .before .after .ensures) (c .before .a2 .given .1)))
+    (λ c κs. search walks) (λ c. search walks) (λ c. search walks) (λ c. search walks)
+    (λ c. omega (arith, comma-there _ _ 93 _ (c .before .before .before .after .ensures) (c .before .a3 .given .1)))
     (λ c. search walks) (λ c. search walks))
     (λ t. element-lts.spec (element-calls t) (element-at t) element.Post
     (λ c κs. search walks) (λ c. search walks) (λ c κs. search walks) (λ c. search walks) (λ c. search walks) (λ c. search walks)
@@ -140,11 +145,15 @@ pub +array+element+item+member+object+value-spec : {M : Type 1} → statement M
     (λ c κs. search walks) (λ c. search walks) (λ c. search walks) (λ c. search walks) (λ c κs. search walks) (λ c. search walks)
     (λ c. search walks) (λ c. search walks) (λ c. search walks))
     (λ t. object-lts.spec (object-calls t) (object-at t) object.Post object-Inv object-μ
+    (λ c. search walks) (λ c κs. search walks) (λ c. search walks) (λ c. search walks) (λ c. search walks)
+    (λ c. omega (arith, begins-there _ _ 125 _ (c .before .before .before .opening .ensures) (c .before .o2 .given .1)))
     (λ c. search walks) (λ c κs. search walks) (λ c. search walks) (λ c. search walks) (λ c. search walks) (λ c. search walks)
-    (λ c κs. search walks) (λ c. search walks) (λ c. search walks) (λ c. search walks) (λ c. search walks) (λ c. search walks)
-    (λ c. search walks) (λ c κs. search walks) (λ c. search walks) (λ c. search walks) (λ c. search walks) (λ c. search walks)
-    (λ c. search walks) (λ c. search walks) (λ c. search walks) (λ c κs. search walks) (λ c. search walks) (λ c. search walks)
     (λ c. search walks) (λ c. search walks) (λ c κs. search walks) (λ c. search walks) (λ c. search walks) (λ c. search walks)
+    (λ c. search walks) (λ c. search walks) (λ c. search walks) (λ c. search walks) (λ c κs. search walks) (λ c. search walks)
+    (λ c. search walks) (λ c. search walks) (λ c. search walks)
+    (λ c. omega (arith, follows-there _ _ 125 _ (c .before .before .before .after .ensures) (c .before .a2 .given .1)))
+    (λ c κs. search walks) (λ c. search walks) (λ c. search walks) (λ c. search walks)
+    (λ c. omega (arith, comma-there _ _ 125 _ (c .before .before .before .after .ensures) (c .before .a3 .given .1)))
     (λ c. search walks) (λ c. search walks))
     (λ t. value-lts.spec (value-calls t) (value-at t) value.Post
     (λ c κs. search walks) (λ c. search walks) (λ c. search walks) (λ c. search walks) (λ c. search walks) (λ c κs. search walks)

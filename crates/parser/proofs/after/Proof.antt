@@ -12,6 +12,4 @@ after-spec =
     (λ c. search walks)
     (λ c. search walks)
     (λ c. search walks)
-    (λ c. search walks)
-    (λ c. search walks)
     (λ c. search walks))

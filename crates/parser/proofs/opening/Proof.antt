@@ -11,5 +11,4 @@ opening-spec =
     (λ c. search walks)
     (λ c. search walks)
     (λ c. search walks)
-    (λ c. search walks)
     (λ c. search walks))
