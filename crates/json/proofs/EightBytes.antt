@@ -2,6 +2,8 @@
 use mathlib.Core.Path.{_≡_, refl, sym, ap, ap₂, _∙_}
 use mathlib.Core.Bool.{Bool, true, false, _&&_, _||_}
 use mathlib.Core.List.{List}
+use mir.Syntax.{w8, w64}
+use mir.Val.{Fits}
 use Prim.Native.Nat.{ℕ, zero, suc, _+_, _-_, _*_, _/_, _%_, _^_, _≤_, _<_}
 use native.Mathlib.Nat.{mod-one, pow-suc, suc-mul, mul-assoc, mul-comm, add-zero}
 use native.Mathlib.Decide.{decLt}
@@ -14,7 +16,7 @@ use lib.ListN.{length, getD}
 use lib.Pow.{pow-pos, pow-add, mod-pow-add, shl-exact}
 use borrow.Author.Tests.{ltb-true, leb-true, le-ltb, eqb-true}
 use Rattle.utf8.specs.Ascii.{ascii}
-use Rattle.utf8.specs.Finite.{each-below}
+use Rattle.utf8.specs.Finite.{allFrom, each-below}
 use Rattle.utf8.specs.Laws.{both-left, both-right, never}
 use Rattle.json.specs.Says.{Unescaped, byteAt, Eight, Marked, typeStart, Typed}
 
@@ -240,13 +242,21 @@ module _ (text : List ℕ) (i : ℕ) (bytes : (j : ℕ) → getD text j 0 < 256)
   pub eight-of : Eight text i (joined text i 7)
   eight-of = record { same = λ j l. joined-byte 7 j (omega arith) (omega arith) }
 
--- the bytes of the number that `is_type` looks for
-type-byte : (j : ℕ) → j < 8 → byteAt j 0x223a_2265_7079_7422 ≡ getD typeStart j 0
-unfolding byteAt ascii
-type-byte j l = eqb-true _ _ (each-below (λ j. eqb (byteAt j 0x223a_2265_7079_7422) (getD typeStart j 0)) 8 j refl l)
+-- what fits a byte fits the number
+pub widen : {n : ℕ} → Fits w8 n → Fits w64 n
+widen f = omega arith
 
-pub typed : {text : List ℕ} {at x : ℕ} → Eight text at x → 8 ≤ length text - at → Typed text at (eqb x 0x223a_2265_7079_7422)
-typed {text} {at} {x} e l = record { inside = λ q. omega arith; same = λ q j h. sym (e .same j h) ∙ rw (eqb-true x 0x223a_2265_7079_7422 q) (type-byte j h) }
+-- a number whose bytes are those that `is_type` looks for
+unfoldable pub typing : ℕ → Bool
+unfolding byteAt ascii
+typing n = allFrom (λ j. eqb (byteAt j n) (getD typeStart j 0)) 0 8
+
+pub typed : (n : ℕ) → typing n ≡ true → {text : List ℕ} {at x : ℕ} → Eight text at x → 8 ≤ length text - at → Typed text at (eqb x n)
+unfolding typing
+typed n z {text} {at} {x} e l = record {
+  inside = λ q. omega arith;
+  same = λ q j h. sym (e .same j h) ∙ rw (eqb-true x n q) (eqb-true _ _ (each-below (λ j. eqb (byteAt j n) (getD typeStart j 0)) 8 j z h));
+}
 
 pub untyped : (text : List ℕ) (at : ℕ) → Typed text at false
 untyped text at = record { inside = λ q. absurd (never q refl); same = λ q. absurd (never q refl) }
