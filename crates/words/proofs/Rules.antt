@@ -1,6 +1,7 @@
 -- What `search` is handed to close what the functions leave.
+use mathlib.Core.Path.{refl}
 use borrow.Author.Needs.{needs}
 use Rattle.words.proofs.Scan.{scan-start, scan-end, scan-low, scan-high, scan-found, scan-more}
-use Rattle.words.proofs.Guess.{guess-right}
+use Rattle.words.proofs.Guess.{guess-right, no-guess, object-placed, geometry-placed, surface-placed}
 
-pub ruleset words = (needs, scan-start, scan-end, scan-low, scan-high, scan-found, scan-more, guess-right)
+pub ruleset words = (needs, scan-start, scan-end, scan-low, scan-high, scan-found, scan-more, guess-right, no-guess, object-placed, geometry-placed, surface-placed, refl)

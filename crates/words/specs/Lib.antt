@@ -2,3 +2,4 @@
 pub mod Words
 pub mod Tables
 pub mod Laws
+pub mod Says

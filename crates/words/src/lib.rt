@@ -6,6 +6,7 @@ ghost use lib.ListN.{length};
 ghost use Rattle.strings.specs.Spans.{Span, decodeAt};
 ghost use Rattle.words.specs.Words.{codeOf, objectWords, geometryWords, surfaceWords};
 ghost use Rattle.words.specs.Tables.{wordsIn, inOrder, numberIn};
+ghost use Rattle.words.specs.Says.{Guessed};
 
 // An end as an offset.
 fn wide(w: u16) -> usize
@@ -93,7 +94,7 @@ fn object_guess(key: usize) -> usize {
 // Is the string the object type at i, counted from 0, one of the first five?
 fn is_object_0_to_4(text: &[u8], at: usize, end: usize, i: usize) -> bool
     requires { ⌜ Span (now text) at end ⌝ }
-    ensures { λ r. ⌜ (r ≡ true → codeOf objectWords (decodeAt (now (text .entry)) at end) ≡ i + 1) ⌝ }
+    ensures { λ r. ⌜ Guessed objectWords (decodeAt (now (text .entry)) at end) i r ⌝ }
 {
     match i {
         0 => compare::is_word(text, at, end, b"Bridge"),
@@ -108,7 +109,7 @@ fn is_object_0_to_4(text: &[u8], at: usize, end: usize, i: usize) -> bool
 // The same for the next six.
 fn is_object_5_to_10(text: &[u8], at: usize, end: usize, i: usize) -> bool
     requires { ⌜ Span (now text) at end ⌝ }
-    ensures { λ r. ⌜ (r ≡ true → codeOf objectWords (decodeAt (now (text .entry)) at end) ≡ i + 1) ⌝ }
+    ensures { λ r. ⌜ Guessed objectWords (decodeAt (now (text .entry)) at end) i r ⌝ }
 {
     match i {
         5 => compare::is_word(text, at, end, b"LandUse"),
@@ -124,7 +125,7 @@ fn is_object_5_to_10(text: &[u8], at: usize, end: usize, i: usize) -> bool
 // The same for the other five of the first level.
 fn is_object_11_to_15(text: &[u8], at: usize, end: usize, i: usize) -> bool
     requires { ⌜ Span (now text) at end ⌝ }
-    ensures { λ r. ⌜ (r ≡ true → codeOf objectWords (decodeAt (now (text .entry)) at end) ≡ i + 1) ⌝ }
+    ensures { λ r. ⌜ Guessed objectWords (decodeAt (now (text .entry)) at end) i r ⌝ }
 {
     match i {
         11 => compare::is_word(text, at, end, b"TINRelief"),
@@ -139,7 +140,7 @@ fn is_object_11_to_15(text: &[u8], at: usize, end: usize, i: usize) -> bool
 // The same for the types of the second level that are of a bridge.
 fn is_of_bridge(text: &[u8], at: usize, end: usize, i: usize) -> bool
     requires { ⌜ Span (now text) at end ⌝ }
-    ensures { λ r. ⌜ (r ≡ true → codeOf objectWords (decodeAt (now (text .entry)) at end) ≡ i + 1) ⌝ }
+    ensures { λ r. ⌜ Guessed objectWords (decodeAt (now (text .entry)) at end) i r ⌝ }
 {
     match i {
         16 => compare::is_word(text, at, end, b"BridgePart"),
@@ -154,7 +155,7 @@ fn is_of_bridge(text: &[u8], at: usize, end: usize, i: usize) -> bool
 // The same for those that are of a building.
 fn is_of_building(text: &[u8], at: usize, end: usize, i: usize) -> bool
     requires { ⌜ Span (now text) at end ⌝ }
-    ensures { λ r. ⌜ (r ≡ true → codeOf objectWords (decodeAt (now (text .entry)) at end) ≡ i + 1) ⌝ }
+    ensures { λ r. ⌜ Guessed objectWords (decodeAt (now (text .entry)) at end) i r ⌝ }
 {
     match i {
         21 => compare::is_word(text, at, end, b"BuildingPart"),
@@ -171,7 +172,7 @@ fn is_of_building(text: &[u8], at: usize, end: usize, i: usize) -> bool
 // The same for those that are of a tunnel.
 fn is_of_tunnel(text: &[u8], at: usize, end: usize, i: usize) -> bool
     requires { ⌜ Span (now text) at end ⌝ }
-    ensures { λ r. ⌜ (r ≡ true → codeOf objectWords (decodeAt (now (text .entry)) at end) ≡ i + 1) ⌝ }
+    ensures { λ r. ⌜ Guessed objectWords (decodeAt (now (text .entry)) at end) i r ⌝ }
 {
     match i {
         28 => compare::is_word(text, at, end, b"TunnelPart"),
@@ -186,7 +187,7 @@ fn is_of_tunnel(text: &[u8], at: usize, end: usize, i: usize) -> bool
 // Is the string the object type at i, counted from 0?
 fn is_object_at(text: &[u8], at: usize, end: usize, i: usize) -> bool
     requires { ⌜ Span (now text) at end ⌝ }
-    ensures { λ r. ⌜ (r ≡ true → codeOf objectWords (decodeAt (now (text .entry)) at end) ≡ i + 1) ⌝ }
+    ensures { λ r. ⌜ Guessed objectWords (decodeAt (now (text .entry)) at end) i r ⌝ }
 {
     match i {
         0..=4 => is_object_0_to_4(text, at, end, i),
@@ -277,7 +278,7 @@ fn geometry_guess(key: usize) -> usize {
 // Is the string the geometry type at i, counted from 0?
 fn is_geometry_at(text: &[u8], at: usize, end: usize, i: usize) -> bool
     requires { ⌜ Span (now text) at end ⌝ }
-    ensures { λ r. ⌜ (r ≡ true → codeOf geometryWords (decodeAt (now (text .entry)) at end) ≡ i + 1) ⌝ }
+    ensures { λ r. ⌜ Guessed geometryWords (decodeAt (now (text .entry)) at end) i r ⌝ }
 {
     match i {
         0 => compare::is_word(text, at, end, b"MultiPoint"),
@@ -346,7 +347,7 @@ fn surface_guess(key: usize) -> usize {
 // Is the string the surface type at i, counted from 0, one of the first six?
 fn is_surface_0_to_5(text: &[u8], at: usize, end: usize, i: usize) -> bool
     requires { ⌜ Span (now text) at end ⌝ }
-    ensures { λ r. ⌜ (r ≡ true → codeOf surfaceWords (decodeAt (now (text .entry)) at end) ≡ i + 1) ⌝ }
+    ensures { λ r. ⌜ Guessed surfaceWords (decodeAt (now (text .entry)) at end) i r ⌝ }
 {
     match i {
         0 => compare::is_word(text, at, end, b"RoofSurface"),
@@ -362,7 +363,7 @@ fn is_surface_0_to_5(text: &[u8], at: usize, end: usize, i: usize) -> bool
 // The same for the next six.
 fn is_surface_6_to_11(text: &[u8], at: usize, end: usize, i: usize) -> bool
     requires { ⌜ Span (now text) at end ⌝ }
-    ensures { λ r. ⌜ (r ≡ true → codeOf surfaceWords (decodeAt (now (text .entry)) at end) ≡ i + 1) ⌝ }
+    ensures { λ r. ⌜ Guessed surfaceWords (decodeAt (now (text .entry)) at end) i r ⌝ }
 {
     match i {
         6 => compare::is_word(text, at, end, b"Window"),
@@ -378,7 +379,7 @@ fn is_surface_6_to_11(text: &[u8], at: usize, end: usize, i: usize) -> bool
 // The same for the last six.
 fn is_surface_12_to_17(text: &[u8], at: usize, end: usize, i: usize) -> bool
     requires { ⌜ Span (now text) at end ⌝ }
-    ensures { λ r. ⌜ (r ≡ true → codeOf surfaceWords (decodeAt (now (text .entry)) at end) ≡ i + 1) ⌝ }
+    ensures { λ r. ⌜ Guessed surfaceWords (decodeAt (now (text .entry)) at end) i r ⌝ }
 {
     match i {
         12 => compare::is_word(text, at, end, b"WaterGroundSurface"),
@@ -394,7 +395,7 @@ fn is_surface_12_to_17(text: &[u8], at: usize, end: usize, i: usize) -> bool
 // Is the string the surface type at i, counted from 0?
 fn is_surface_at(text: &[u8], at: usize, end: usize, i: usize) -> bool
     requires { ⌜ Span (now text) at end ⌝ }
-    ensures { λ r. ⌜ (r ≡ true → codeOf surfaceWords (decodeAt (now (text .entry)) at end) ≡ i + 1) ⌝ }
+    ensures { λ r. ⌜ Guessed surfaceWords (decodeAt (now (text .entry)) at end) i r ⌝ }
 {
     match i {
         0..=5 => is_surface_0_to_5(text, at, end, i),

@@ -1,6 +1,4 @@
 -- `words::is_object_at` meets its contract.
-use mathlib.Core.Path.{refl}
-use Rattle.utf8.specs.Laws.{never}
 use Rattle.words.proofs.Rules.{words}
 use Rattle.words.proofs.is_object_at.Statement.{statement}
 use Rattle.words.proofs.is_object_at.Tie as tie
@@ -21,4 +19,4 @@ is-object-at-spec =
     (λ c. search words)
     (λ c. search words)
     (λ c. search words)
-    (λ c e. absurd (never e refl)))
+    (λ c. search words))

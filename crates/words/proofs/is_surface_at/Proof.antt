@@ -1,6 +1,4 @@
 -- `words::is_surface_at` meets its contract.
-use mathlib.Core.Path.{refl}
-use Rattle.utf8.specs.Laws.{never}
 use Rattle.words.proofs.Rules.{words}
 use Rattle.words.proofs.is_surface_at.Statement.{statement}
 use Rattle.words.proofs.is_surface_at.Tie as tie
@@ -15,4 +13,4 @@ is-surface-at-spec =
     (λ c. search words)
     (λ c. search words)
     (λ c. search words)
-    (λ c e. absurd (never e refl)))
+    (λ c. search words))
