@@ -26,7 +26,8 @@ module _ (x : List ℕ) (at : ℕ) (w : List ℕ) (h : at + length w ≤ length 
     rest : k ≤ length w → Span x (at + k) (at + length w)
     rest l = record { low = omega arith; high = h }
 
-    pub spell-more : k < length w → getD x (at + k) 0 ≡ getD w k 0 → (getD x (at + k) 0 ≡ 92 → ⊥) → same w (decodeAt x at (at + length w)) ≡ same (drop (k + 1) w) (decodeAt x (at + (k + 1)) (at + length w))
+    pub spell-more : k < length w → getD x (at + k) 0 ≡ getD w k 0 → (getD x (at + k) 0 ≡ 92 → ⊥)
+        → same w (decodeAt x at (at + length w)) ≡ same (drop (k + 1) w) (decodeAt x (at + (k + 1)) (at + length w))
     spell-more l f n =
         let z : at + k + 1 ≡ at + (k + 1) = omega arith in
         rw z at (plain-word-more (rest (omega arith)) (omega arith) n w _ w k q (omega arith) (λ e. omega arith) (sym f))
@@ -69,7 +70,8 @@ module _ (x : List ℕ) (i end j at at2 : ℕ) (s : Span x i end) (t : Span x j 
     pub level-again : i + 1 + at2 ≡ j + 1 + at
     level-again = omega arith
 
-    pub level-more : (v u : List ℕ) → same v u ≡ same (decodeAt x i end) (decodeAt x j (at2 + (end - at))) → getD x i 0 ≡ getD x j 0 → (getD x i 0 ≡ 92 → ⊥) → same v u ≡ same (decodeAt x (i + 1) end) (decodeAt x (j + 1) (at2 + (end - at)))
+    pub level-more : (v u : List ℕ) → same v u ≡ same (decodeAt x i end) (decodeAt x j (at2 + (end - at))) → getD x i 0 ≡ getD x j 0 → (getD x i 0 ≡ 92 → ⊥)
+        → same v u ≡ same (decodeAt x (i + 1) end) (decodeAt x (j + 1) (at2 + (end - at)))
     level-more v u q f n = plain-both-more s a n t level (λ h. n (f ∙ h)) v u q f
 
   pub agree-all : Span x at end → end ≤ i → same (decodeAt x at end) (decodeAt x at2 (at2 + (end - at))) ≡ same (decodeAt x i end) (decodeAt x j (at2 + (end - at))) → LooksSame x at end at2 true

@@ -1,4 +1,5 @@
-// Strings of JSON texts compared, with a word and with each other. A string is given by the text and two offsets: `at`, just after its opening quote, and `end`, its closing quote.
+// Strings of JSON texts compared, with a word and with each other. A string is given by the text and two offsets: `at`, just after its opening quote,
+// and `end`, its closing quote.
 ghost use Prim.Native.Nat.{_+_, _-_, _≤_};
 ghost use mathlib.Core.Path.{_≡_};
 ghost use lib.ListN.{length, drop};

@@ -71,6 +71,18 @@ is-escape b (inr (inr (inr (inr (inr (inr (inr e))))))) = rw e
 
 pub no-escape : (b : ℕ) → (Escapes b → ⊥) → false ≡ isEscape b
 unfolding isEscape
-no-escape b h = rw (ne-eqb b 34 (λ e. h (inl e)), ne-eqb b 47 (λ e. h (inr (inl e))), ne-eqb b 92 (λ e. h (inr (inr (inl e)))), ne-eqb b 98 (λ e. h (inr (inr (inr (inl e))))), ne-eqb b 102 (λ e. h (inr (inr (inr (inr (inl e)))))), ne-eqb b 110 (λ e. h (inr (inr (inr (inr (inr (inl e))))))), ne-eqb b 114 (λ e. h (inr (inr (inr (inr (inr (inr (inl e)))))))), ne-eqb b 116 (λ e. h (inr (inr (inr (inr (inr (inr (inr e)))))))))
+no-escape b h =
+    rw (
+      ne-eqb b 34 (λ e. h (inl e)),
+      ne-eqb b 47 (λ e. h (inr (inl e))),
+      ne-eqb b 92 (λ e. h (inr (inr (inl e)))),
+      ne-eqb b 98 (λ e. h (inr (inr (inr (inl e))))),
+      ne-eqb b 102 (λ e. h (inr (inr (inr (inr (inl e)))))),
+      ne-eqb b 110 (λ e. h (inr (inr (inr (inr (inr (inl e))))))),
+      ne-eqb b 114 (λ e. h (inr (inr (inr (inr (inr (inr (inl e)))))))),
+      ne-eqb b 116 (λ e. h (inr (inr (inr (inr (inr (inr (inr e)))))))),
+    )
 
-pub ruleset bytes = (needs, blank-32, blank-10, blank-13, over-blank, no-blank, is-digit, under-digit, over-digit, hex-digit, hex-upper, hex-lower, hex-none, hex-none-2, hex-none-3, hex-none-4, is-escape, no-escape)
+pub ruleset hexes = (hex-digit, hex-upper, hex-lower, hex-none, hex-none-2, hex-none-3, hex-none-4)
+
+pub ruleset bytes = (needs, hexes, blank-32, blank-10, blank-13, over-blank, no-blank, is-digit, under-digit, over-digit, is-escape, no-escape)

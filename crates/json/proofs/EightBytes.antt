@@ -64,7 +64,11 @@ unfolding fine
 clear b l e =
     let f : (leb 32 b && (ltb 0 (bitXor b 34) && ltb 0 (bitXor b 92))) ≡ true = second (ltb 0 (mark b)) _ (each-below fine 256 b refl l) (le-ltb 0 (mark b) (omega arith)) in
     let g = both-right (leb 32 b) _ f in
-    record { no-control = leb-true 32 b (both-left (leb 32 b) _ f); some-34 = ltb-true 0 (bitXor b 34) (both-left (ltb 0 (bitXor b 34)) _ g); some-92 = ltb-true 0 (bitXor b 92) (both-right (ltb 0 (bitXor b 34)) _ g) }
+    record {
+      no-control = leb-true 32 b (both-left (leb 32 b) _ f);
+      some-34 = ltb-true 0 (bitXor b 34) (both-left (ltb 0 (bitXor b 34)) _ g);
+      some-92 = ltb-true 0 (bitXor b 92) (both-right (ltb 0 (bitXor b 34)) _ g);
+    }
   where
     second : (a b : Bool) → (a || b) ≡ true → a ≡ false → b ≡ true
     second true b h n = absurd (never refl n)
@@ -146,7 +150,8 @@ trailing-low (suc t) (suc w) n h = by (n % 2) refl h (λ l. trailing-low t w (n 
     by (suc d) e l rest = absurd (omega arith)
 
 -- the lowest of k + 1 bytes, if it has no mark, and then the others
-module _ (k x s u v : ℕ) (es : (s + rep (suc k) 1) % pw (suc k) ≡ bitXor x (rep (suc k) 34)) (eu : (u + rep (suc k) 1) % pw (suc k) ≡ bitXor x (rep (suc k) 92)) (ev : (v + rep (suc k) 32) % pw (suc k) ≡ x) where
+module _ (k x s u v : ℕ) (es : (s + rep (suc k) 1) % pw (suc k) ≡ bitXor x (rep (suc k) 34)) (eu : (u + rep (suc k) 1) % pw (suc k) ≡ bitXor x (rep (suc k) 92))
+    (ev : (v + rep (suc k) 32) % pw (suc k) ≡ x) where
   xor-low : (c : ℕ) → c < 256 → bitXor x (rep (suc k) c) % 256 ≡ bitXor (x % 256) c
   xor-low c l = xor-mod x (rep (suc k) c) 8 ∙ ap (bitXor (x % 256)) (rep-low k c l)
 
@@ -173,15 +178,18 @@ module _ (k x s u v : ℕ) (es : (s + rep (suc k) 1) % pw (suc k) ≡ bitXor x (
     rest-32 = minus-high k v 32 _ ev (c .no-control)
 
 -- a byte that has no mark, and none below it has one
-marks-clear : (k x s u v : ℕ) → (s + rep k 1) % pw k ≡ bitXor x (rep k 34) → (u + rep k 1) % pw k ≡ bitXor x (rep k 92) → (v + rep k 32) % pw k ≡ x → (j : ℕ) → j < k → Zeros (suc j) (marksOf k x s u v) → Unescaped (byteAt j x)
+marks-clear : (k x s u v : ℕ) → (s + rep k 1) % pw k ≡ bitXor x (rep k 34) → (u + rep k 1) % pw k ≡ bitXor x (rep k 92) → (v + rep k 32) % pw k ≡ x → (j : ℕ) → j < k
+    → Zeros (suc j) (marksOf k x s u v) → Unescaped (byteAt j x)
 unfolding byteAt
 marks-clear zero x s u v es eu ev j l z = absurd (omega arith)
 marks-clear (suc k) x s u v es eu ev zero l z = unescaped (x % 256) (lowest k x s u v es eu ev (z .0))
 marks-clear (suc k) x s u v es eu ev (suc j) l z =
     let c = lowest k x s u v es eu ev (z .0) in
-    marks-clear k (x / 256) (s / 256) (u / 256) (v / 256) (rest-34 k x s u v es eu ev c) (rest-92 k x s u v es eu ev c) (rest-32 k x s u v es eu ev c) j (omega arith) (rw (sym (marks-high k x s u v)) (z .1))
+    marks-clear k (x / 256) (s / 256) (u / 256) (v / 256) (rest-34 k x s u v es eu ev c) (rest-92 k x s u v es eu ev c) (rest-32 k x s u v es eu ev c) j (omega arith)
+    (rw (sym (marks-high k x s u v)) (z .1))
 
-pub marked : (x s u v : ℕ) → (s + 0x0101_0101_0101_0101) % 2 ^ 64 ≡ bitXor x 0x2222_2222_2222_2222 → (u + 0x0101_0101_0101_0101) % 2 ^ 64 ≡ bitXor x 0x5c5c_5c5c_5c5c_5c5c → (v + 0x2020_2020_2020_2020) % 2 ^ 64 ≡ x
+pub marked : (x s u v : ℕ) → (s + 0x0101_0101_0101_0101) % 2 ^ 64 ≡ bitXor x 0x2222_2222_2222_2222 → (u + 0x0101_0101_0101_0101) % 2 ^ 64 ≡ bitXor x 0x5c5c_5c5c_5c5c_5c5c
+    → (v + 0x2020_2020_2020_2020) % 2 ^ 64 ≡ x
     → Marked x (bitAnd (bitAnd (bitOr (bitOr s u) v) (bitXor x 0xffff_ffff_ffff_ffff)) 0x8080_8080_8080_8080)
 marked x s u v es eu ev =
     let m = marksOf 8 x s u v in
@@ -215,7 +223,8 @@ joined text i (suc k) = bitOr (joined text i k) (getD text (i + suc k) 0 * 2 ^ (
 
 module _ (text : List ℕ) (i : ℕ) (bytes : (j : ℕ) → getD text j 0 < 256) where
   joined-more : (k : ℕ) → k < 7 → joined text i k < 2 ^ (suc k * 8) → joined text i (suc k) ≡ getD text (i + suc k) 0 * 2 ^ (suc k * 8) + joined text i k
-  joined-more k l h = ap (bitOr (joined text i k)) (shl-exact 8 (suc k * 8) 64 (bytes (i + suc k)) (omega (arith, suc-mul k 8))) ∙ or-shifted-r (getD text (i + suc k) 0) (suc k * 8) (joined text i k) h
+  joined-more k l h =
+      ap (bitOr (joined text i k)) (shl-exact 8 (suc k * 8) 64 (bytes (i + suc k)) (omega (arith, suc-mul k 8))) ∙ or-shifted-r (getD text (i + suc k) 0) (suc k * 8) (joined text i k) h
 
   joined-small : (k : ℕ) → k < 8 → joined text i k < 2 ^ (suc k * 8)
   joined-small zero l = bytes i

@@ -69,7 +69,8 @@ module _ (x : List ℕ) (p : ℕ) (l : p < length x) where
 
   pub scalar-digit : {r : Scan} → false ≡ isBlank (getD x p 0) → (getD x p 0 ≡ 48 → ⊥) → 48 ≤ getD x p 0 → getD x p 0 < 58 → Reads x int (numbered x) (p + 1) r → Scalar x p r
   unfolding isNumeric
-  scalar-digit w z lo hi s = scalar-numeral int (rw (ne-eqb (getD x p 0) 45 (λ e. omega arith)) (is-digit (getD x p 0) lo hi)) (want-digit 32 x p _ w z (is-digit (getD x p 0) lo hi) lo (omega arith)) s
+  scalar-digit w z lo hi s =
+      scalar-numeral int (rw (ne-eqb (getD x p 0) 45 (λ e. omega arith)) (is-digit (getD x p 0) lo hi)) (want-digit 32 x p _ w z (is-digit (getD x p 0) lo hi) lo (omega arith)) s
 
   scalar-word : {r : Scan} (ws : List ℕ) (s : WordAt) (v : (e : ℕ) → Json) → ((e : ℕ) → size (v e) ≡ 3)
       → ((e : ℕ) (t : List ℕ) (i : ℕ) → p < e → e ≤ length x → Placed t i p e (i + 3) → Sub x t i (v e))
@@ -90,17 +91,22 @@ module _ (x : List ℕ) (p : ℕ) (l : p < length x) where
 
   pub scalar-true : {r : Scan} → getD x p 0 ≡ 116 → ReadsWord x (114 ∷ 117 ∷ 101 ∷ []) (p + 1) r → Scalar x p r
   unfolding literalOf ascii size
-  scalar-true b h = scalar-word (114 ∷ 117 ∷ 101 ∷ []) (record { begun = p; meant = some true }) (λ e. tree.bool p e true) (λ e. refl) (λ e t i a c w. bool (words-of w a c b)) (λ e. refl) (want-t 32 x p _ b) h
+  scalar-true b h =
+      scalar-word (114 ∷ 117 ∷ 101 ∷ []) (record { begun = p; meant = some true }) (λ e. tree.bool p e true) (λ e. refl) (λ e t i a c w. bool (words-of w a c b)) (λ e. refl) (want-t 32 x p _ b) h
 
   pub scalar-false : {r : Scan} → getD x p 0 ≡ 102 → ReadsWord x (97 ∷ 108 ∷ 115 ∷ 101 ∷ []) (p + 1) r → Scalar x p r
   unfolding literalOf ascii size
-  scalar-false b h = scalar-word (97 ∷ 108 ∷ 115 ∷ 101 ∷ []) (record { begun = p; meant = some false }) (λ e. tree.bool p e false) (λ e. refl) (λ e t i a c w. bool (words-of w a c b)) (λ e. refl) (want-f 32 x p _ b) h
+  scalar-false b h =
+      scalar-word (97 ∷ 108 ∷ 115 ∷ 101 ∷ []) (record { begun = p; meant = some false }) (λ e. tree.bool p e false) (λ e. refl) (λ e t i a c w. bool (words-of w a c b)) (λ e. refl) (want-f 32 x p _ b)
+      h
 
   pub scalar-null : {r : Scan} → getD x p 0 ≡ 110 → ReadsWord x (117 ∷ 108 ∷ 108 ∷ []) (p + 1) r → Scalar x p r
   unfolding literalOf ascii size
-  scalar-null b h = scalar-word (117 ∷ 108 ∷ 108 ∷ []) (record { begun = p; meant = option.none }) (λ e. tree.null p e) (λ e. refl) (λ e t i a c w. null (words-of w a c b)) (λ e. refl) (want-n 32 x p _ b) h
+  scalar-null b h =
+      scalar-word (117 ∷ 108 ∷ 108 ∷ []) (record { begun = p; meant = option.none }) (λ e. tree.null p e) (λ e. refl) (λ e t i a c w. null (words-of w a c b)) (λ e. refl) (want-n 32 x p _ b) h
 
-  module _ (w : false ≡ isBlank (getD x p 0)) (h91 : getD x p 0 ≡ 91 → ⊥) (h123 : getD x p 0 ≡ 123 → ⊥) (h34 : getD x p 0 ≡ 34 → ⊥) (h45 : getD x p 0 ≡ 45 → ⊥) (h48 : getD x p 0 ≡ 48 → ⊥) (h116 : getD x p 0 ≡ 116 → ⊥) (h102 : getD x p 0 ≡ 102 → ⊥) (h110 : getD x p 0 ≡ 110 → ⊥) where
+  module _ (w : false ≡ isBlank (getD x p 0)) (h91 : getD x p 0 ≡ 91 → ⊥) (h123 : getD x p 0 ≡ 123 → ⊥) (h34 : getD x p 0 ≡ 34 → ⊥) (h45 : getD x p 0 ≡ 45 → ⊥) (h48 : getD x p 0 ≡ 48 → ⊥)
+      (h116 : getD x p 0 ≡ 116 → ⊥) (h102 : getD x p 0 ≡ 102 → ⊥) (h110 : getD x p 0 ≡ 110 → ⊥) where
     pub scalar-low : getD x p 0 < 48 → Scalar x p (Bad p)
     unfolding Scalar
     scalar-low h = λ ks. dies x want ks p l (want-no 32 x p _ w h91 h123 h34 h45 h48 h116 h102 h110 (under-digit (getD x p 0) h) ks)
@@ -113,7 +119,8 @@ module _ (x : List ℕ) (p : ℕ) (l : p < length x) where
 pub digits-no : (x : List ℕ) (p : ℕ) → Digits x p p
 digits-no x p = record { leaf = λ z. absurd (z refl) }
 
-pub digits-yes : (x : List ℕ) (p e : ℕ) → p < length x → 49 ≤ getD x p 0 → getD x p 0 ≤ 57 → Skips digital isDigit x (p + 1) e → e < length x → (getD x e 0 ≡ 46 → ⊥) → (getD x e 0 ≡ 101 → ⊥) → (getD x e 0 ≡ 69 → ⊥) → Digits x p e
+pub digits-yes : (x : List ℕ) (p e : ℕ) → p < length x → 49 ≤ getD x p 0 → getD x p 0 ≤ 57 → Skips digital isDigit x (p + 1) e → e < length x → (getD x e 0 ≡ 46 → ⊥) → (getD x e 0 ≡ 101 → ⊥)
+    → (getD x e 0 ≡ 69 → ⊥) → Digits x p e
 unfolding Scalar
 digits-yes x p e l lo hi s m d h g =
     let r : Reads x int (numbered x) (p + 1) (End e) = int-digits s (looks nought mant (numbered x) m (nought-else 32 x e _ d) (mant-done m h g)) in

@@ -47,7 +47,8 @@ module _ (text : List ℕ) (m : Mode) (ks : List Frame) (at : ℕ) where
       bads (k ∷ ks′) = refl
 
 -- two modes that do alike at the byte, if there is one, and at the text's end
-pub settles : (text : List ℕ) (e : ℕ) (m m′ : Mode) (ks : List Frame) → ending 32 text m e ≡ ending 32 text m′ e → (e < length text → step 32 text m ks e (getD text e 0) ≡ step 32 text m′ ks e (getD text e 0)) → from text m ks e ≡ from text m′ ks e
+pub settles : (text : List ℕ) (e : ℕ) (m m′ : Mode) (ks : List Frame) → ending 32 text m e ≡ ending 32 text m′ e
+    → (e < length text → step 32 text m ks e (getD text e 0) ≡ step 32 text m′ ks e (getD text e 0)) → from text m ks e ≡ from text m′ ks e
 settles text e m m′ ks w h = by (decLt e (length text))
   where
     ended : (ks′ : List Frame) → finish 32 text m ks′ e ≡ finish 32 text m′ ks′ e

@@ -49,14 +49,17 @@ module _ {A : Type 0} {text : List ℕ} {at : ℕ} where
   stops m m′ h e = record { within = tt; same = λ a ks. dies text (m a) ks at h (e a ks) }
 
   -- a byte is passed
-  pub passes : {r : Scan} (m m′ : A → Mode) (m″ : A → ℕ → Mode) → at < length text → ((a : A) (ks : List Frame) → step 32 text (m a) ks at (getD text at 0) ≡ go (m′ a) ks) → Reads text m′ m″ (at + 1) r → Reads text m m″ at r
+  pub passes : {r : Scan} (m m′ : A → Mode) (m″ : A → ℕ → Mode) → at < length text → ((a : A) (ks : List Frame) → step 32 text (m a) ks at (getD text at 0) ≡ go (m′ a) ks)
+      → Reads text m′ m″ (at + 1) r → Reads text m m″ at r
   passes {r} m m′ m″ h e p = record { within = within-less at (at + 1) (length text) r (omega arith) (p .within); same = λ a ks. moves text (m a) ks at (m′ a) ks h (e a ks) ∙ p .same a ks }
 
-  pub passes-end : (m : A → Mode) (m′ : A → ℕ → Mode) → at < length text → ((a : A) (ks : List Frame) → step 32 text (m a) ks at (getD text at 0) ≡ go (m′ a (at + 1)) ks) → Reads text m m′ at (End (at + 1))
+  pub passes-end : (m : A → Mode) (m′ : A → ℕ → Mode) → at < length text → ((a : A) (ks : List Frame) → step 32 text (m a) ks at (getD text at 0) ≡ go (m′ a (at + 1)) ks)
+      → Reads text m m′ at (End (at + 1))
   passes-end m m′ h e = record { within = (omega arith, omega arith); same = λ a ks. moves text (m a) ks at (m′ a (at + 1)) ks h (e a ks) }
 
   -- a byte is looked at
-  pub looks : {r : Scan} (m m′ : A → Mode) (m″ : A → ℕ → Mode) → at < length text → ((a : A) (ks : List Frame) → step 32 text (m a) ks at (getD text at 0) ≡ step 32 text (m′ a) ks at (getD text at 0)) → Reads text m′ m″ at r → Reads text m m″ at r
+  pub looks : {r : Scan} (m m′ : A → Mode) (m″ : A → ℕ → Mode) → at < length text → ((a : A) (ks : List Frame) → step 32 text (m a) ks at (getD text at 0) ≡ step 32 text (m′ a) ks at (getD text at 0))
+      → Reads text m′ m″ at r → Reads text m m″ at r
   looks m m′ m″ h e p = record { within = p .within; same = λ a ks. alike text (m a) ks at (m′ a) ks h (e a ks) ∙ p .same a ks }
 
   -- one part, and another after it
@@ -85,7 +88,10 @@ end-low {A} {text} {m} {m′} {at} {r} {e} p q = (subst (Within at (length text)
 pub digits-end : {text : List ℕ} {at e : ℕ} (m : ℕ → Mode) (m′ : ℕ → ℕ → Mode) → ((p : ℕ) → T (digital (m p))) → ((p : ℕ) → ending 32 text (m p) e ≡ ending 32 text (m′ p e) e)
     → ((b : ℕ) → false ≡ isDigit b → (p : ℕ) (ks : List Frame) → step 32 text (m p) ks e b ≡ step 32 text (m′ p e) ks e b)
     → Skips digital isDigit text at e → Reads text m m′ at (End e)
-digits-end {text} {at} {e} m m′ o w law h = record { within = (h .stays .low, h .stays .high); same = λ p ks. h .stays .same (m p) (o p) ks ∙ settles text e (m p) (m′ p e) ks (w p) (λ l. law (getD text e 0) (h .stop l) p ks) }
+digits-end {text} {at} {e} m m′ o w law h = record {
+  within = (h .stays .low, h .stays .high);
+  same = λ p ks. h .stays .same (m p) (o p) ks ∙ settles text e (m p) (m′ p e) ks (w p) (λ l. law (getD text e 0) (h .stop l) p ks);
+}
 
 module _ {text : List ℕ} {at e : ℕ} (h : Skips digital isDigit text at e) where
   pub frac-digits : Reads text frac (to mant) at (End e)
@@ -201,11 +207,17 @@ module _ {text : List ℕ} {at i : ℕ} (h : Reads text charsOf (to charsOf) at 
 
   pub string-shut : i < length text → getD text i 0 ≡ 34 → ReadsString text at (End (i + 1))
   unfolding charsOf closedOf
-  string-shut l e = record { reads = joins charsOf charsOf (closedOf text) h refl (passes-end charsOf (closedOf text) l (λ s ks. chars-quote 32 text i _ e _ _ ks)); past = (omega (arith, h .within .0), omega arith) }
+  string-shut l e = record {
+    reads = joins charsOf charsOf (closedOf text) h refl (passes-end charsOf (closedOf text) l (λ s ks. chars-quote 32 text i _ e _ _ ks));
+    past = (omega (arith, h .within .0), omega arith);
+  }
 
   pub string-bad : (m : ℕ) → i < length text → getD text i 0 < m → m ≤ 32 → ReadsString text at (Bad i)
   unfolding charsOf
-  string-bad m l b h′ = record { reads = joins charsOf charsOf (closedOf text) h refl (stops charsOf (closedOf text) l (λ s ks. chars-no 32 text i _ (λ e. omega arith) (λ e. omega arith) (omega arith) _ _ ks)); past = tt }
+  string-bad m l b h′ = record {
+    reads = joins charsOf charsOf (closedOf text) h refl (stops charsOf (closedOf text) l (λ s ks. chars-no 32 text i _ (λ e. omega arith) (λ e. omega arith) (omega arith) _ _ ks));
+    past = tt;
+  }
 
   pub string-plain : i < length text → (getD text i 0 ≡ 34 → ⊥) → (getD text i 0 ≡ 92 → ⊥) → 32 ≤ getD text i 0 → Reads text charsOf (to charsOf) at (End (i + 1))
   unfolding charsOf to
@@ -237,7 +249,8 @@ pub escape-less : {text : List ℕ} (i : ℕ) {e : ℕ} {r : Scan} → Reads tex
 escape-less i p q = let l = end-low p q in let h = end-high p q in omega arith
 
 -- several bytes that a string has as they stand
-pub string-run : {text : List ℕ} {at i : ℕ} → Reads text charsOf (to charsOf) at (End i) → (k : ℕ) → i + k ≤ length text → ((j : ℕ) → j < k → Unescaped (getD text (i + j) 0)) → Reads text charsOf (to charsOf) at (End (i + k))
+pub string-run : {text : List ℕ} {at i : ℕ} → Reads text charsOf (to charsOf) at (End i) → (k : ℕ) → i + k ≤ length text → ((j : ℕ) → j < k → Unescaped (getD text (i + j) 0))
+    → Reads text charsOf (to charsOf) at (End (i + k))
 string-run {i = i} h zero l u = rw (add-zero i) h
 string-run {i = i} h (suc k) l u =
     let b = u k (omega arith) in

@@ -58,7 +58,28 @@ module _ {text : List ℕ} {at : ℕ} {r : Scan} (p : Reads text dot (to mant) (
   pub fraction-part : {e : ℕ} {r′ : Scan} → r ≡ End e → Reads text mant (numbered text) e r′ → Reads text nought (numbered text) at r′
   fraction-part q p′ = passes nought dot (numbered text) l (nought-dot 32 text at _ b) (joins dot mant (numbered text) p q p′)
 
-pub ruleset lexes = (needs, flag-yes, flag-no, flag-not-yes, flag-not-no, blanks-none, blanks-more, digits-none, digits-more, stays-stop, stays-out, ends-bad, stops, passes, looks, end-high, fraction-break, fraction-part, frac-digits, exps-digits, int-digits, mant-out, nought-out, mant-done, dot-yes, dot-no, sign-yes, sign-no, exp-plus, exp-minus, exp-else, mant-e, mant-E, nought-dot, nought-else, neg-0, neg-digit, neg-no, word-start, word-short, word-wrong, word-more, word-done, hexes-start, hex-short, hex-wrong, hex-more, hex-done, escape-out, escape-u, escape-one, escape-no, string-start, string-out, string-shut, string-bad, string-plain, string-letter, string-rest, string-break, string-escaped, escape-less, passes-start, passes-part, passes-all)
+-- tests of flags
+pub ruleset flags = (flag-yes, flag-no, flag-not-yes, flag-not-no)
+
+-- white space and digits
+pub ruleset skips = (blanks-none, blanks-more, digits-none, digits-more, stays-stop, stays-out)
+
+-- numerals: their whole parts and fractions
+pub ruleset fractions = (fraction-break, fraction-part, frac-digits, int-digits, nought-out, dot-yes, dot-no, nought-dot, nought-else, neg-0, neg-digit, neg-no)
+
+-- and their exponents
+pub ruleset exponents = (exps-digits, mant-out, mant-done, sign-yes, sign-no, exp-plus, exp-minus, exp-else, mant-e, mant-E)
+
+-- the words
+pub ruleset literals = (word-start, word-short, word-wrong, word-more, word-done)
+
+-- strings: an escape
+pub ruleset escapes = (hexes-start, hex-short, hex-wrong, hex-more, hex-done, escape-out, escape-u, escape-one, escape-no, escape-less)
+
+-- and their other bytes
+pub ruleset strings = (string-start, string-out, string-shut, string-bad, string-plain, string-letter, string-rest, string-break, string-escaped, passes-start, passes-part, passes-all)
+
+pub ruleset lexes = (needs, flags, skips, fractions, exponents, literals, escapes, strings, ends-bad, stops, passes, looks, end-high)
 
 -- values that hold no other
 pub ruleset scalars = (needs, scalar-string, scalar-minus, scalar-0, scalar-digit, scalar-true, scalar-false, scalar-null, scalar-low, scalar-high, digits-no, digits-yes)

@@ -29,6 +29,7 @@ open-33 = refl
 
 -- {"a":[-1.5e3, "\u00e9"]}
 whole : read (ascii "{\"a\":[-1.5e3, \"\\u00e9\"]}")
-    ≡ reads (obj 0 24 (member (record { place = 1; end = 4; raw = ascii "a" }) (arr 5 23 (num 6 12 (ascii "-1.5e3") ▸ str 14 22 (ascii "\\u00e9") ▸ noItems)) empty))
+    ≡ reads
+    (obj 0 24 (member (record { place = 1; end = 4; raw = ascii "a" }) (arr 5 23 (num 6 12 (ascii "-1.5e3") ▸ str 14 22 (ascii "\\u00e9") ▸ noItems)) empty))
 unfolding read ascii step wantStep gotStep nextStep nameStep mantStep noughtStep isBlank isDigit isHex isEscape _◂_ with
 whole = refl

@@ -93,9 +93,11 @@ mutual
 
   -- ws string ws : ws value ws, then a comma and more, or the brace
   pub data Members (x : List ℕ) : ℕ → ℕ → ℕ → tree.Members → Type 0 where
-    last-member : {l n q f c p e k : ℕ} {v : Json} → Ws x n q → At x q 34 → Chars x (q + 1) f → Ws x f c → At x c 58 → Ws x (c + 1) p → Value x l p e v → Ws x e k → At x k 125
+    last-member : {l n q f c p e k : ℕ} {v : Json} → Ws x n q → At x q 34 → Chars x (q + 1) f → Ws x f c → At x c 58 → Ws x (c + 1) p → Value x l p e v
+        → Ws x e k → At x k 125
         → Members x l n (k + 1) (member (nameAt x q f) v tree.empty)
-    next-member : {l n q f c p e k m : ℕ} {v : Json} {ms : tree.Members} → Ws x n q → At x q 34 → Chars x (q + 1) f → Ws x f c → At x c 58 → Ws x (c + 1) p → Value x l p e v → Ws x e k → At x k 44
+    next-member : {l n q f c p e k m : ℕ} {v : Json} {ms : tree.Members} → Ws x n q → At x q 34 → Chars x (q + 1) f → Ws x f c → At x c 58 → Ws x (c + 1) p
+        → Value x l p e v → Ws x e k → At x k 44
         → Members x l (k + 1) m ms → Members x l n m (member (nameAt x q f) v ms)
 
 -- JSON-text = ws value ws, of at most l levels, with its tree

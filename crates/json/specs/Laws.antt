@@ -88,7 +88,8 @@ unfolding sizes _◂_
 subs-◂ nil s = cons (rw add-zero at s) nil
 subs-◂ (cons u us) s = cons u (subs-◂ us (rw (← add-assoc) at s))
 
-pub fields-with : {x t : List ℕ} {i n : ℕ} {ms : Members} {k : Name} {v : Json} → Fields x t i ms → i + widths ms ≡ n → Quoted x t n (k .place) (k .end) (k .raw) → Sub x t (n + 3) v → Fields x t i (with ms k v)
+pub fields-with : {x t : List ℕ} {i n : ℕ} {ms : Members} {k : Name} {v : Json} → Fields x t i ms → i + widths ms ≡ n
+    → Quoted x t n (k .place) (k .end) (k .raw) → Sub x t (n + 3) v → Fields x t i (with ms k v)
 unfolding widths with
 fields-with {i = i} {k = k} {v = v} last e q s = let z : i ≡ _ = sym (add-zero i) ∙ e in field {i = i} {k = k} {v = v} (rw z q) (rw z s) last
 fields-with (field {v = u} q′ s′ fs) e q s = field q′ s′ (fields-with fs (omega arith) q s)
@@ -96,7 +97,15 @@ fields-with (field {v = u} q′ s′ fs) e q s = field q′ s′ (fields-with fs
 -- words that are the same stand for the same value
 module _ {x t t′ : List ℕ} (long : length t′ ≡ length t) where
   pub same-words : {i p e b n : ℕ} → ((k : ℕ) → i ≤ k → k < i + 3 → getD t′ k 0 ≡ getD t k 0) → Words x t i p e b n → Words x t′ i p e b n
-  same-words s w = record { room = omega (arith, w .room); start = s _ (omega arith) (omega arith) ∙ w .start; end = s _ (omega arith) (omega arith) ∙ w .end; next = s _ (omega arith) (omega arith) ∙ w .next; some = w .some; inside = w .inside; byte = w .byte }
+  same-words s w = record {
+    room = omega (arith, w .room);
+    start = s _ (omega arith) (omega arith) ∙ w .start;
+    end = s _ (omega arith) (omega arith) ∙ w .end;
+    next = s _ (omega arith) (omega arith) ∙ w .next;
+    some = w .some;
+    inside = w .inside;
+    byte = w .byte;
+  }
 
   pub same-quoted : {i p e : ℕ} {raw : List ℕ} → ((k : ℕ) → i ≤ k → k < i + 3 → getD t′ k 0 ≡ getD t k 0) → Quoted x t i p e raw → Quoted x t′ i p e raw
   same-quoted s q = record { words = same-words s (q .words); quotes = q .quotes; between = q .between }
@@ -118,7 +127,9 @@ module _ {x t t′ : List ℕ} (long : length t′ ≡ length t) where
 
     pub same-fields : {i : ℕ} {ms : Members} → Fields x t i ms → ((k : ℕ) → i ≤ k → k < i + widths ms → getD t′ k 0 ≡ getD t k 0) → Fields x t′ i ms
     same-fields last s = last
-    same-fields (field {v = v} q u us) s = field (same-quoted (λ k l h. s k l (omega arith)) q) (same-sub u (λ k l h. s k (omega arith) (omega arith))) (same-fields us (λ k l h. s k (omega arith) (omega arith)))
+    same-fields (field {v = v} q u us) s =
+        field (same-quoted (λ k l h. s k l (omega arith)) q) (same-sub u (λ k l h. s k (omega arith) (omega arith)))
+        (same-fields us (λ k l h. s k (omega arith) (omega arith)))
 
 -- a numeral's first byte
 pub other-byte : (b k : ℕ) → true ≡ isNumeric b → isNumeric k ≡ false → b ≡ k → ⊥
@@ -126,7 +137,15 @@ other-byte b k h f e = let g : true ≡ isNumeric k = rw e at h in clash cc
 
 numeral-kind : (b : ℕ) → true ≡ isNumeric b → byteKind b ≡ aNumber
 unfolding byteKind isNumeric isDigit
-numeral-kind b h = rw (ne-eqb b 91 (other-byte b 91 h refl), ne-eqb b 123 (other-byte b 123 h refl), ne-eqb b 34 (other-byte b 34 h refl), ne-eqb b 110 (other-byte b 110 h refl), ne-eqb b 116 (other-byte b 116 h refl), ne-eqb b 102 (other-byte b 102 h refl))
+numeral-kind b h =
+    rw (
+      ne-eqb b 91 (other-byte b 91 h refl),
+      ne-eqb b 123 (other-byte b 123 h refl),
+      ne-eqb b 34 (other-byte b 34 h refl),
+      ne-eqb b 110 (other-byte b 110 h refl),
+      ne-eqb b 116 (other-byte b 116 h refl),
+      ne-eqb b 102 (other-byte b 102 h refl),
+    )
 
 -- what a node's words say of its value
 module _ {x t : List ℕ} where
@@ -135,7 +154,15 @@ module _ {x t : List ℕ} where
   words (null w) = w
   words (bool w) = w
   words (num {p = p} {e = e} w n r) =
-      record { room = w .room; start = w .start; end = w .end; next = w .next; some = w .some; inside = w .inside; byte = rw (r, slice-cons p e x 0 (w .some) (w .inside)) }
+      record {
+        room = w .room;
+        start = w .start;
+        end = w .end;
+        next = w .next;
+        some = w .some;
+        inside = w .inside;
+        byte = rw (r, slice-cons p e x 0 (w .some) (w .inside));
+      }
   words (str q) = q .words
   words (arr w vs) = w
   words (obj w ms) = w
@@ -252,7 +279,17 @@ past {x} {t} {k} {n} {P} l h = go (l .stand) (l .ends) (l .holds)
     go nil e p = absurd (omega arith)
     go (cons {v = v} {vs = vs} s ss) e p =
         let w = words s in
-        record { value = v; others = vs; holds = p; stands = s; word = w; more = omega (arith, size-pos v, w .next); within = omega (arith, w .next); then = rw (w .next) ss; ends = omega (arith, w .next) }
+        record {
+          value = v;
+          others = vs;
+          holds = p;
+          stands = s;
+          word = w;
+          more = omega (arith, size-pos v, w .next);
+          within = omega (arith, w .next);
+          then = rw (w .next) ss;
+          ends = omega (arith, w .next);
+        }
 
 pub over : {x t : List ℕ} {k n : ℕ} {P Q : Items → Type 0} (u : Past x t k n P) → Q (u .others) → Left x t (getD t (k + 2) 0) n Q
 over u q = record { items = u .others; stand = u .then; ends = u .ends; holds = q }
@@ -303,7 +340,19 @@ member-past {x} {t} {k} {n} {P} l h = go (l .stand) (l .ends) (l .holds)
     go (field {k = j} {v = v} {ms = ms} q s fs) e p =
         let w = words s in
         let z : getD t (k + 3 + 2) 0 ≡ k + (3 + size v) = w .next ∙ add-assoc k 3 (size v) in
-        record { key = j; value = v; others = ms; holds = p; quoted = q; stands = s; word = w; more = omega arith; within = omega arith; then = rw z fs; ends = omega arith }
+        record {
+          key = j;
+          value = v;
+          others = ms;
+          holds = p;
+          quoted = q;
+          stands = s;
+          word = w;
+          more = omega arith;
+          within = omega arith;
+          then = rw z fs;
+          ends = omega arith;
+        }
 
 pub member-over : {x t : List ℕ} {k n : ℕ} {P Q : Members → Type 0} (u : MemberPast x t k n P) → Q (u .others) → MembersLeft x t (getD t (k + 3 + 2) 0) n Q
 member-over u q = record { members = u .others; stand = u .then; ends = u .ends; holds = q }

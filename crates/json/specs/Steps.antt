@@ -52,7 +52,8 @@ module _ (most : ℕ) (text : List ℕ) (n b : ℕ) where
   unfolding step mantStep
   mant-E e p ks = rw e
 
-  pub mant-else : (b ≡ 101 → ⊥) → (b ≡ 69 → ⊥) → (p : ℕ) (ks : List Frame) → step most text (mant p) ks n b ≡ step most text (got (numeral most text p n)) ks n b
+  pub mant-else : (b ≡ 101 → ⊥) → (b ≡ 69 → ⊥) → (p : ℕ) (ks : List Frame)
+      → step most text (mant p) ks n b ≡ step most text (got (numeral most text p n)) ks n b
   unfolding step mantStep
   mant-else h m p ks = rw (ne-eqb b 101 h, ne-eqb b 69 m)
 
@@ -130,7 +131,8 @@ module _ (most : ℕ) (text : List ℕ) (n b : ℕ) where
   unfolding step
   lit-last w e p l ks = rw (eq-eqb b w e)
 
-  pub lit-more : (w w′ : ℕ) (ws : List ℕ) → b ≡ w → (p : ℕ) (l : Option Bool) (ks : List Frame) → step most text (lit p l (w ∷ w′ ∷ ws)) ks n b ≡ go (lit p l (w′ ∷ ws)) ks
+  pub lit-more : (w w′ : ℕ) (ws : List ℕ) → b ≡ w → (p : ℕ) (l : Option Bool) (ks : List Frame)
+      → step most text (lit p l (w ∷ w′ ∷ ws)) ks n b ≡ go (lit p l (w′ ∷ ws)) ks
   unfolding step
   lit-more w w′ ws e p l ks = rw (eq-eqb b w e)
 
@@ -166,12 +168,33 @@ module _ (most : ℕ) (text : List ℕ) (n b : ℕ) where
 
   pub want-digit : false ≡ isBlank b → (b ≡ 48 → ⊥) → true ≡ isDigit b → 48 ≤ b → b ≤ 57 → (ks : List Frame) → step most text want ks n b ≡ go (int n) ks
   unfolding step wantStep
-  want-digit w z d l h ks = rw (sym w, ne-eqb b 91 (λ e. omega arith), ne-eqb b 123 (λ e. omega arith), ne-eqb b 34 (λ e. omega arith), ne-eqb b 45 (λ e. omega arith), ne-eqb b 48 z, sym d)
+  want-digit w z d l h ks =
+      rw (
+        sym w,
+        ne-eqb b 91 (λ e. omega arith),
+        ne-eqb b 123 (λ e. omega arith),
+        ne-eqb b 34 (λ e. omega arith),
+        ne-eqb b 45 (λ e. omega arith),
+        ne-eqb b 48 z,
+        sym d,
+      )
 
-  pub want-no : false ≡ isBlank b → (b ≡ 91 → ⊥) → (b ≡ 123 → ⊥) → (b ≡ 34 → ⊥) → (b ≡ 45 → ⊥) → (b ≡ 48 → ⊥) → (b ≡ 116 → ⊥) → (b ≡ 102 → ⊥) → (b ≡ 110 → ⊥) → false ≡ isDigit b → (ks : List Frame) → step most text want ks n b ≡ dead
+  pub want-no : false ≡ isBlank b → (b ≡ 91 → ⊥) → (b ≡ 123 → ⊥) → (b ≡ 34 → ⊥) → (b ≡ 45 → ⊥) → (b ≡ 48 → ⊥) → (b ≡ 116 → ⊥) → (b ≡ 102 → ⊥) → (b ≡ 110 → ⊥)
+      → false ≡ isDigit b → (ks : List Frame) → step most text want ks n b ≡ dead
   unfolding step wantStep
   want-no w h91 h123 h34 h45 h48 h116 h102 h110 d ks =
-      rw (sym w, ne-eqb b 91 h91, ne-eqb b 123 h123, ne-eqb b 34 h34, ne-eqb b 45 h45, ne-eqb b 48 h48, sym d, ne-eqb b 116 h116, ne-eqb b 102 h102, ne-eqb b 110 h110)
+      rw (
+        sym w,
+        ne-eqb b 91 h91,
+        ne-eqb b 123 h123,
+        ne-eqb b 34 h34,
+        ne-eqb b 45 h45,
+        ne-eqb b 48 h48,
+        sym d,
+        ne-eqb b 116 h116,
+        ne-eqb b 102 h102,
+        ne-eqb b 110 h110,
+      )
 
   -- containers
   pub open-array : b ≡ 91 → (ks : List Frame) → length ks < most → step most text want ks n b ≡ go (first n) ks
@@ -194,7 +217,8 @@ module _ (most : ℕ) (text : List ℕ) (n b : ℕ) where
   unfolding step isBlank
   first-close e p ks = rw e
 
-  pub first-else : false ≡ isBlank b → (b ≡ 93 → ⊥) → (p : ℕ) (ks : List Frame) → step most text (first p) ks n b ≡ step most text want (array p noItems ∷ ks) n b
+  pub first-else : false ≡ isBlank b → (b ≡ 93 → ⊥) → (p : ℕ) (ks : List Frame)
+      → step most text (first p) ks n b ≡ step most text want (array p noItems ∷ ks) n b
   unfolding step
   first-else w h p ks = rw (sym w, ne-eqb b 93 h)
 

@@ -54,7 +54,8 @@ abbrev pub lead : Bool → ℕ
 lead true = 116
 lead false = 102
 
--- `Sub x t i v`: the words of the table t from i on are those of the value v of the text x. `Subs` and `Fields`: those of elements and of members, one after the other
+-- `Sub x t i v`: the words of the table t from i on are those of the value v of the text x. `Subs` and `Fields`: those of elements and of members, one
+-- after the other
 mutual
   pub data Sub (x t : List ℕ) : ℕ → Json → Type 0 where
     null : {i p e : ℕ} → Words x t i p e 110 (i + 3) → Sub x t i (tree.null p e)
@@ -70,4 +71,5 @@ mutual
 
   pub data Fields (x t : List ℕ) : ℕ → Members → Type 0 where
     last : {i : ℕ} → Fields x t i tree.empty
-    field : {i : ℕ} {k : Name} {v : Json} {ms : Members} → Quoted x t i (k .place) (k .end) (k .raw) → Sub x t (i + 3) v → Fields x t (i + (3 + size v)) ms → Fields x t i (member k v ms)
+    field : {i : ℕ} {k : Name} {v : Json} {ms : Members} → Quoted x t i (k .place) (k .end) (k .raw) → Sub x t (i + 3) v → Fields x t (i + (3 + size v)) ms
+        → Fields x t i (member k v ms)

@@ -41,7 +41,18 @@ told-from : (x t₀ t : List ℕ) (m m′ : Mode) (at at′ levels levels′ mos
     → Told x t₀ t m′ at′ levels′ most′ n r → Told x t₀ t m at levels most n r
 unfolding Told
 told-from x t₀ t m m′ at at′ levels levels′ most most′ n (walk.Read e k) f g l d h =
-    record { value = h .value; stands = h .stands; ends = h .ends; goes = λ ks z. f ks z ∙ h .goes ks (g (length ks) z); more = omega (arith, h .more); inside = h .inside; fits = omega (arith, h .fits); long = h .long; below = h .below; above = h .above }
+    record {
+      value = h .value;
+      stands = h .stands;
+      ends = h .ends;
+      goes = λ ks z. f ks z ∙ h .goes ks (g (length ks) z);
+      more = omega (arith, h .more);
+      inside = h .inside;
+      fits = omega (arith, h .fits);
+      long = h .long;
+      below = h .below;
+      above = h .above;
+    }
 told-from x t₀ t m m′ at at′ levels levels′ most most′ n (walk.Bad q) f g l d h = λ ks z. f ks z ∙ h ks (g (length ks) z)
 told-from x t₀ t m m′ at at′ levels levels′ most most′ n (walk.Deep q) f g l d h = λ ks z. f ks z ∙ h ks (g (length ks) z)
 
@@ -123,12 +134,14 @@ module _ {x : List ℕ} {at i : ℕ} (k : Skips blanks isBlank x at i) where
     pub value-array : (t : List ℕ) (r : Walk) → getD x i 0 ≡ 91 → (levels ≡ 0 → ⊥) → Told x t₀ t (first i) (i + 1) (levels - 1) 31 n r → Told x t₀ t want at levels 32 n r
     value-array t r b z h =
         let lo = k .stays .low in
-        told-from x t₀ t want (first i) at (i + 1) levels (levels - 1) 32 31 n r (λ ks e. k .stays .same want tt ks ∙ moves x want ks i (first i) ks l (open-array 32 x i _ b ks (omega arith))) (λ j e. omega arith) (omega arith) (omega arith) h
+        told-from x t₀ t want (first i) at (i + 1) levels (levels - 1) 32 31 n r (λ ks e. k .stays .same want tt ks ∙ moves x want ks i (first i) ks l (open-array 32 x i _ b ks (omega arith)))
+        (λ j e. omega arith) (omega arith) (omega arith) h
 
     pub value-object : (t : List ℕ) (r : Walk) → getD x i 0 ≡ 123 → (levels ≡ 0 → ⊥) → Told x t₀ t (name0 i) (i + 1) (levels - 1) 31 n r → Told x t₀ t want at levels 32 n r
     value-object t r b z h =
         let lo = k .stays .low in
-        told-from x t₀ t want (name0 i) at (i + 1) levels (levels - 1) 32 31 n r (λ ks e. k .stays .same want tt ks ∙ moves x want ks i (name0 i) ks l (open-object 32 x i _ b ks (omega arith))) (λ j e. omega arith) (omega arith) (omega arith) h
+        told-from x t₀ t want (name0 i) at (i + 1) levels (levels - 1) 32 31 n r (λ ks e. k .stays .same want tt ks ∙ moves x want ks i (name0 i) ks l (open-object 32 x i _ b ks (omega arith)))
+        (λ j e. omega arith) (omega arith) (omega arith) h
 
 -- Inside a container that the byte b at the offset at opened: from the mode m after it, the machine comes to the mode m′ at i, with f of the stack open;
 -- k is the first free word, with slack s; the words before the container's, and from k on, are as they were in t₀
@@ -148,7 +161,17 @@ module _ {b : ℕ} {x t₀ : List ℕ} {at levels n i : ℕ} (o : Opened b x t�
   pub enters : (m : Mode) → T (blanks m) → Level b m x t₀ t₀ at levels n i (n + 3) m (λ ks. ks) 96
   enters m h =
       let r = o .ready in
-      record { opened = o; past = omega (arith, k .stays .low); high = k .stays .high; after = omega arith; fits = omega (arith, r .fits, k .stays .low); long = refl; below = λ j l. refl; above = λ j l. refl; goes = λ ks z. k .stays .same m h ks }
+      record {
+        opened = o;
+        past = omega (arith, k .stays .low);
+        high = k .stays .high;
+        after = omega arith;
+        fits = omega (arith, r .fits, k .stays .low);
+        long = refl;
+        below = λ j l. refl;
+        above = λ j l. refl;
+        goes = λ ks z. k .stays .same m h ks;
+      }
 
 module _ {b : ℕ} {m : Mode} {x t₀ t : List ℕ} {at levels n i k : ℕ} {m′ : Mode} {f : List Frame → List Frame} {s : ℕ} (l : Level b m x t₀ t at levels n i k m′ f s) where
   level-out : (t′ : List ℕ) → length x ≤ i → ((ks : List Frame) → finish 32 x m′ (f ks) i ≡ bad i) → Told x t₀ t′ m (at + 1) levels 31 n (walk.Bad i)
@@ -160,10 +183,31 @@ module _ {b : ℕ} {m : Mode} {x t₀ t : List ℕ} {at levels n i k : ℕ} {m�
   level-dies t′ h e = λ ks z. l .goes ks z ∙ dies x m′ (f ks) i h (e ks)
 
   level-blank : {j : ℕ} → T (blanks m′) → Skips blanks isBlank x i j → Level b m x t₀ t at levels n j k m′ f s
-  level-blank h q = record { opened = l .opened; past = omega (arith, l .past, q .stays .low); high = q .stays .high; after = l .after; fits = omega (arith, l .fits, q .stays .low); long = l .long; below = l .below; above = l .above; goes = λ ks z. l .goes ks z ∙ q .stays .same m′ h (f ks) }
+  level-blank h q = record {
+    opened = l .opened;
+    past = omega (arith, l .past, q .stays .low);
+    high = q .stays .high;
+    after = l .after;
+    fits = omega (arith, l .fits, q .stays .low);
+    long = l .long;
+    below = l .below;
+    above = l .above;
+    goes = λ ks z. l .goes ks z ∙ q .stays .same m′ h (f ks);
+  }
 
-  level-looks : (m″ : Mode) (g : List Frame → List Frame) → i < length x → ((ks : List Frame) → step 32 x m′ (f ks) i (getD x i 0) ≡ step 32 x m″ (g ks) i (getD x i 0)) → Level b m x t₀ t at levels n i k m″ g s
-  level-looks m″ g h e = record { opened = l .opened; past = l .past; high = l .high; after = l .after; fits = l .fits; long = l .long; below = l .below; above = l .above; goes = λ ks z. l .goes ks z ∙ alike x m′ (f ks) i m″ (g ks) h (e ks) }
+  level-looks : (m″ : Mode) (g : List Frame → List Frame) → i < length x → ((ks : List Frame) → step 32 x m′ (f ks) i (getD x i 0) ≡ step 32 x m″ (g ks) i (getD x i 0))
+      → Level b m x t₀ t at levels n i k m″ g s
+  level-looks m″ g h e = record {
+    opened = l .opened;
+    past = l .past;
+    high = l .high;
+    after = l .after;
+    fits = l .fits;
+    long = l .long;
+    below = l .below;
+    above = l .above;
+    goes = λ ks z. l .goes ks z ∙ alike x m′ (f ks) i m″ (g ks) h (e ks);
+  }
 
   level-ready : s ≤ 96 → Ready x t i levels 32 k
   level-ready h = let r = l .opened .ready in record { texts = r .texts; words = omega (arith, r .words, l .long); high = l .high; most32 = omega arith; fits = omega (arith, l .fits) }
@@ -174,7 +218,8 @@ module _ {b : ℕ} {m : Mode} {x t₀ t : List ℕ} {at levels n i k : ℕ} {m�
       let z = l .opened .there in
       record { room = omega (arith, r .words, l .long, l .fits, l .after); start = omega (arith, r .texts); end = omega (arith, r .texts); next = omega (arith, r .texts, l .fits) }
 
-  level-closes : {t′ : List ℕ} {v : Json} → s ≤ 99 → i < length x → ((ks : List Frame) → step 32 x m′ (f ks) i (getD x i 0) ≡ go (got v) ks) → Wrote t t′ n at (i + 1) k → Sub x t′ n v → n + size v ≡ k → Told x t₀ t′ m (at + 1) levels 31 n (walk.Read (i + 1) k)
+  level-closes : {t′ : List ℕ} {v : Json} → s ≤ 99 → i < length x → ((ks : List Frame) → step 32 x m′ (f ks) i (getD x i 0) ≡ go (got v) ks) → Wrote t t′ n at (i + 1) k → Sub x t′ n v → n + size v ≡ k
+      → Told x t₀ t′ m (at + 1) levels 31 n (walk.Read (i + 1) k)
   unfolding Told
   level-closes {t′} {v} d h e w u q = record {
     value = v;
@@ -189,11 +234,23 @@ module _ {b : ℕ} {m : Mode} {x t₀ t : List ℕ} {at levels n i k : ℕ} {m�
     above = λ j z. w .above j (omega (arith, l .after)) ∙ l .above j z;
   }
 
-  level-byte : (m″ : Mode) (g : List Frame → List Frame) → s ≤ 99 → i < length x → ((ks : List Frame) → step 32 x m′ (f ks) i (getD x i 0) ≡ go m″ (g ks)) → Level b m x t₀ t at levels n (i + 1) k m″ g 96
-  level-byte m″ g d h e = record { opened = l .opened; past = omega (arith, l .past); high = omega arith; after = l .after; fits = omega (arith, l .fits); long = l .long; below = l .below; above = l .above; goes = λ ks z. l .goes ks z ∙ moves x m′ (f ks) i m″ (g ks) h (e ks) }
+  level-byte : (m″ : Mode) (g : List Frame → List Frame) → s ≤ 99 → i < length x → ((ks : List Frame) → step 32 x m′ (f ks) i (getD x i 0) ≡ go m″ (g ks))
+      → Level b m x t₀ t at levels n (i + 1) k m″ g 96
+  level-byte m″ g d h e = record {
+    opened = l .opened;
+    past = omega (arith, l .past);
+    high = omega arith;
+    after = l .after;
+    fits = omega (arith, l .fits);
+    long = l .long;
+    below = l .below;
+    above = l .above;
+    goes = λ ks z. l .goes ks z ∙ moves x m′ (f ks) i m″ (g ks) h (e ks);
+  }
 
 -- a value inside
-module _ {b : ℕ} {m : Mode} {x t₀ t₁ : List ℕ} {at levels n i k : ℕ} {f : List Frame → List Frame} (t₂ : List ℕ) (l : Level b m x t₀ t₁ at levels n i k want f 96) (o : (ks : List Frame) → length (f ks) ≡ length ks + 1) where
+module _ {b : ℕ} {m : Mode} {x t₀ t₁ : List ℕ} {at levels n i k : ℕ} {f : List Frame → List Frame} (t₂ : List ℕ) (l : Level b m x t₀ t₁ at levels n i k want f 96)
+    (o : (ks : List Frame) → length (f ks) ≡ length ks + 1) where
   level-value : {e k′ : ℕ} (r : Read x t₁ t₂ want i levels 32 k e k′) → Level b m x t₀ t₂ at levels n e k′ (got (r .value)) f 99
   level-value r = record {
     opened = l .opened;
@@ -551,13 +608,24 @@ module _ (x t₀ : List ℕ) (short : length x ≤ 65535) (room : 3 * length x +
     module _ (e n j : ℕ) (q : r ≡ walk.Read e n) (k : Skips blanks isBlank x e j) where
       pub parse-trailing : j < length x → Tells x t₀ t (parsed.Bad j)
       unfolding Tells
-      parse-trailing l = let v = told-read r h q in (short, sym (from-start x) ∙ v .goes [] refl ∙ k .stays .same (got (v .value)) tt [] ∙ dies x (got (v .value)) [] j l (got-end 32 x j _ (k .stop l) (v .value)), room)
+      parse-trailing l =
+          let v = told-read r h q in
+          (short, sym (from-start x) ∙ v .goes [] refl ∙ k .stays .same (got (v .value)) tt [] ∙ dies x (got (v .value)) [] j l (got-end 32 x j _ (k .stop l) (v .value)), room)
 
       pub parse-whole : length x ≤ j → Tells x t₀ t (parsed.Nodes n)
       unfolding Tells
       parse-whole l =
           let v = told-read r h q in
-          record { value = v .value; short = short; room = room; reads = sym (from-start x) ∙ v .goes [] refl ∙ k .stays .same (got (v .value)) tt [] ∙ at-end x (got (v .value)) [] j l; stands = v .stands; ends = omega (arith, v .ends); long = v .long; rest = v .above }
+          record {
+            value = v .value;
+            short = short;
+            room = room;
+            reads = sym (from-start x) ∙ v .goes [] refl ∙ k .stays .same (got (v .value)) tt [] ∙ at-end x (got (v .value)) [] j l;
+            stands = v .stands;
+            ends = omega (arith, v .ends);
+            long = v .long;
+            rest = v .above;
+          }
 
 pub parse-long : (x t : List ℕ) → 65535 < length x → Tells x t t parsed.Long
 unfolding Tells

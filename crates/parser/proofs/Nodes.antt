@@ -60,7 +60,12 @@ module _ (x : List ℕ) (at : ℕ) (r : Scan) (s : Scalar x at r) where
   pub atom-fits : {t : List ℕ} {n e : ℕ} → r ≡ End e → Ready x t at 0 32 n → Fits t n at e (n + 3)
   atom-fits q k =
       let f = leaf q in
-      record { room = omega (arith, f .more, f .inside, k .words, k .fits); start = omega (arith, f .more, f .inside, k .texts); end = omega (arith, f .inside, k .texts); next = omega (arith, f .more, f .inside, k .texts, k .fits) }
+      record {
+        room = omega (arith, f .more, f .inside, k .words, k .fits);
+        start = omega (arith, f .more, f .inside, k .texts);
+        end = omega (arith, f .inside, k .texts);
+        next = omega (arith, f .more, f .inside, k .texts, k .fits);
+      }
 
   pub atom-read : {t₀ t : List ℕ} {n e : ℕ} → r ≡ End e → Wrote t₀ t n at e (n + 3) → Atom x t₀ t at n (walk.Read e (n + 3))
   unfolding Atom
@@ -131,12 +136,16 @@ module _ {x : List ℕ} {at i : ℕ} (k : Skips blanks isBlank x at i) where
   module _ {r : Scan} (l : i < length x) (b : getD x i 0 ≡ 34) (s : ReadsString x (i + 1) r) where
     pub name-break : (t₀ t : List ℕ) (n q : ℕ) → r ≡ Bad q → Names x t₀ t at n (Bad q)
     unfolding Names charsOf
-    name-break t₀ t n q e = λ p ms ks. k .stays .same (name1 p ms) tt ks ∙ moves x (name1 p ms) ks i (chars (name p ms) i) ks l (name-quote 32 x i _ b p ms ks) ∙ (rw e at (s .reads .same (record { role = name p ms; begun = i }) ks))
+    name-break t₀ t n q e =
+        λ p ms ks. k .stays .same (name1 p ms) tt ks ∙ moves x (name1 p ms) ks i (chars (name p ms) i) ks l (name-quote 32 x i _ b p ms ks)
+        ∙ (rw e at (s .reads .same (record { role = name p ms; begun = i }) ks))
 
     module _ {e : ℕ} (q : r ≡ End e) where
       called : (p : ℕ) (ms : Members) (ks : List Frame) → from x (name1 p ms) ks at ≡ from x (colon p ms (record { place = i; end = e; raw = slice (i + 1) (e - 1) x })) ks e
       unfolding charsOf closedOf
-      called p ms ks = k .stays .same (name1 p ms) tt ks ∙ moves x (name1 p ms) ks i (chars (name p ms) i) ks l (name-quote 32 x i _ b p ms ks) ∙ (rw q at (s .reads .same (record { role = name p ms; begun = i }) ks))
+      called p ms ks =
+          k .stays .same (name1 p ms) tt ks ∙ moves x (name1 p ms) ks i (chars (name p ms) i) ks l (name-quote 32 x i _ b p ms ks)
+          ∙ (rw q at (s .reads .same (record { role = name p ms; begun = i }) ks))
 
       -- and its colon
       pub named : (t₀ t : List ℕ) (n : ℕ) (v : Scan) → Wrote t₀ t n i e (n + 3) → Colons x e v → Names x t₀ t at n v

@@ -34,7 +34,8 @@ module _ (b : ℕ) where
   unfolding hexValue
   hex-between l h = rw (lt-leb b 57 (omega arith), lt-leb b 70 l) (omega arith)
 
-pub unit-is : (x : List ℕ) (at a b c d : ℕ) → a ≡ hexValue (getD x at 0) → b ≡ hexValue (getD x (at + 1) 0) → c ≡ hexValue (getD x (at + 2) 0) → d ≡ hexValue (getD x (at + 3) 0) → ((a * 16 + b) * 16 + c) * 16 + d ≡ unitAt x at
+pub unit-is : (x : List ℕ) (at a b c d : ℕ) → a ≡ hexValue (getD x at 0) → b ≡ hexValue (getD x (at + 1) 0) → c ≡ hexValue (getD x (at + 2) 0) → d ≡ hexValue (getD x (at + 3) 0)
+    → ((a * 16 + b) * 16 + c) * 16 + d ≡ unitAt x at
 unfolding unitAt hexValue
 unit-is x at a b c d e f g h = rw (e, f, g, h)
 

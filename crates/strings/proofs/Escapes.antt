@@ -78,7 +78,14 @@ module _ {x : List ℕ} {at end : ℕ} (s : Span x at end) (l : at + 6 ≤ end) 
       let two : at + 6 + 6 ≡ at + 12 = omega arith in
       let p : partsAt x (at + 6) end ≡ unit (at + 6) w ∷ partsAt x (at + 12) end = rw two at (k .parts) in
       let n : alone at (paired u w) ≡ [] = alone-over (paired u w) at (omega arith) in
-      rw z (record { past = omega arith; within = omega (arith, k .within); small = omega (arith, k .least, k .most); stands = stands-pair x at end u (at + 6) unit-here w (at + 12) p (high-is u a b) (low-is w (k .least) (k .most)); places = rw n (places-pair x at end u (at + 6) unit-here w (at + 12) p (high-is u a b) (low-is w (k .least) (k .most))) })
+      rw z
+      (record {
+        past = omega arith;
+        within = omega (arith, k .within);
+        small = omega (arith, k .least, k .most);
+        stands = stands-pair x at end u (at + 6) unit-here w (at + 12) p (high-is u a b) (low-is w (k .least) (k .most));
+        places = rw n (places-pair x at end u (at + 6) unit-here w (at + 12) p (high-is u a b) (low-is w (k .least) (k .most)));
+      })
 
 module _ (x : List ℕ) (at end : ℕ) (r : Second) (w : ℕ) (h : Halves x at end r) (q : r ≡ Half w) where
   half : Halves x at end (Half w)
@@ -167,11 +174,19 @@ module _ (u at end : ℕ) where
     module _ (b : ℕ) (q : b ≡ 0x80 + u / 64 % 64) where
       pub spread-3 : 0x800 ≤ u → u < 0x10000 → Spreads u at end (Byte (0xE0 + u / 4096) (cursor at end (b + a * 256) 2))
       unfolding Spreads
-      spread-3 l h = rw (p, q) (record { bytes = rw (le-2 (0x80 + u % 64) (0x80 + u / 64 % 64) 0 (omega arith) (omega arith) (omega arith)) (encode-3 u l h); few = omega arith; from = refl; till = refl })
+      spread-3 l h =
+          rw (p, q) (record { bytes = rw (le-2 (0x80 + u % 64) (0x80 + u / 64 % 64) 0 (omega arith) (omega arith) (omega arith)) (encode-3 u l h); few = omega arith; from = refl; till = refl })
 
       pub spread-4 : (c : ℕ) → c ≡ 0x80 + u / 4096 % 64 → 0x10000 ≤ u → Spreads u at end (Byte (0xF0 + u / 262144) (cursor at end (c + b * 256 + a * 65536) 3))
       unfolding Spreads
-      spread-4 c r l = rw (p, q, r) (record { bytes = rw (le-3 (0x80 + u % 64) (0x80 + u / 64 % 64) (0x80 + u / 4096 % 64) (omega arith) (omega arith) (omega arith)) (encode-4 u l); few = omega arith; from = refl; till = refl })
+      spread-4 c r l =
+          rw (p, q, r)
+          (record {
+            bytes = rw (le-3 (0x80 + u % 64) (0x80 + u / 64 % 64) (0x80 + u / 4096 % 64) (omega arith) (omega arith) (omega arith)) (encode-4 u l);
+            few = omega arith;
+            from = refl;
+            till = refl;
+          })
 
 -- a step where no character is begun
 module _ {x : List ℕ} {at end : ℕ} (s : Span x at end) where

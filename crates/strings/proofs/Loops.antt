@@ -72,7 +72,12 @@ module _ {l m d₀ d : List ℕ} {to o : ℕ} (w : Writing l m d₀ d to o) wher
         let t : take (suc o) (set d o b) ≡ take o d ++ (b ∷ []) = take-suc-set d o b writing-room in
         let f : drop (suc o + length m′) (set d o b) ≡ drop (suc o + length m′) d = drop-set-lt (suc o + length m′) d o b (omega arith) in
         let g : take o d ++ (b ∷ m′) ++ drop (suc o + length m′) d ≡ take to d₀ ++ l ++ drop (to + length l) d₀ = rw (z, q) at (w .bytes) in
-        record { long = length-set d o b ∙ w .long; goes = omega (arith, w .goes); room = omega (arith, w .room, length-set d o b); bytes = rw (add-one o, t, f, append-assoc (take o d) (b ∷ []) m′) g }
+        record {
+          long = length-set d o b ∙ w .long;
+          goes = omega (arith, w .goes);
+          room = omega (arith, w .room, length-set d o b);
+          bytes = rw (add-one o, t, f, append-assoc (take o d) (b ∷ []) m′) g;
+        }
 
 pub copy-start : (x l d₀ d d′ : List ℕ) (to o r i end : ℕ) → Writing l (decodeAt x i end) d₀ d to o → Copied (ahead x (cursor i end 0 0)) d d′ o r → Copied l d₀ d′ to r
 copy-start x l d₀ d d′ to o r i end w k = writing-rest w d′ r (rw (ahead-start x i end 0) at k)

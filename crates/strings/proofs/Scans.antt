@@ -30,7 +30,8 @@ module _ (x : List ℕ) (at : ℕ) where
     unfolding hasByte
     block-more h l =
         let z : suc (at + k) ≡ at + (k + 1) = omega arith in
-        let q : slice (at + k) (at + 64) x ≡ getD x (at + k) 0 ∷ slice (at + (k + 1)) (at + 64) x = slice-cons (at + k) (at + 64) x 0 (omega arith) h ∙ ap (λ (n : ℕ). getD x (at + k) 0 ∷ slice n (at + 64) x) z in
+        let q : slice (at + k) (at + 64) x ≡ getD x (at + k) 0 ∷ slice (at + (k + 1)) (at + 64) x =
+        slice-cons (at + k) (at + 64) x 0 (omega arith) h ∙ ap (λ (n : ℕ). getD x (at + k) 0 ∷ slice n (at + 64) x) z in
         or-assoc f (eqb (getD x (at + k) 0) 92) _ ∙ (ap (λ (l : List ℕ). f || hasByte 92 l) (sym q) ∙ e)
 
     pub block-done : k ≤ 64 → 64 ≤ k → f ≡ all

@@ -1,4 +1,5 @@
--- Laws of decoding: where a string stands does not change what it stands for; it stands for no more bytes than it has; strings that begin apart do not stand for the same bytes; the places of its unpaired surrogates are in increasing order, and there are none where no byte is a backslash.
+-- Laws of decoding: where a string stands does not change what it stands for; it stands for no more bytes than it has; strings that begin apart do not
+-- stand for the same bytes; the places of its unpaired surrogates are in increasing order, and there are none where no byte is a backslash.
 use Prim.Native.Nat.{ℕ, zero, suc, _+_, _-_, _*_, _/_, _≤_, _<_}
 use native.Mathlib.Numerals.{add-one}
 use native.Mathlib.Omega.{arith}
@@ -42,7 +43,8 @@ unplaced-ended (hex (suc j) u) n m b = refl
 unplaced-pieces : (k : Mark) (n m : ℕ) (s : List ℕ) → unplaced (pieces k n s) ≡ unplaced (pieces k m s)
 unfolding pieces
 unplaced-pieces k n m [] = refl
-unplaced-pieces k n m (b ∷ s) = unplaced-append (ended k n b) _ ∙ (rw (unplaced-ended k n m b, unplaced-pieces (next k b) (n + 1) (m + 1) s) (sym (unplaced-append (ended k m b) _)))
+unplaced-pieces k n m (b ∷ s) =
+    unplaced-append (ended k n b) _ ∙ (rw (unplaced-ended k n m b, unplaced-pieces (next k b) (n + 1) (m + 1) s) (sym (unplaced-append (ended k m b) _)))
 
 by-cases : (c : Bool) {a a′ b b′ : List ℕ} → a ≡ a′ → b ≡ b′ → _≡_ {A = List ℕ} (elim c [ true ↦ a | false ↦ b ]) (elim c [ true ↦ a′ | false ↦ b′ ])
 by-cases true p q = p
@@ -54,7 +56,9 @@ decoded-unplaced [] = refl
 decoded-unplaced (byte b ∷ ps) = rw (decoded-unplaced ps)
 decoded-unplaced (unit p u ∷ []) = refl
 decoded-unplaced (unit p u ∷ byte b ∷ ps) = rw (decoded-unplaced ps)
-decoded-unplaced (unit p u ∷ unit q w ∷ ps) = by-cases (isHigh u && isLow w) (ap (λ (l : List ℕ). encode (paired u w) ++ l) (decoded-unplaced ps)) (ap (λ (l : List ℕ). encode u ++ l) (decoded-unplaced (unit q w ∷ ps)))
+decoded-unplaced (unit p u ∷ unit q w ∷ ps) =
+    by-cases (isHigh u && isLow w) (ap (λ (l : List ℕ). encode (paired u w) ++ l) (decoded-unplaced ps))
+    (ap (λ (l : List ℕ). encode u ++ l) (decoded-unplaced (unit q w ∷ ps)))
 
 -- where the bytes stand does not matter
 pub decoded-anywhere : (n m : ℕ) (s : List ℕ) → decoded (pieces plain n s) ≡ decoded (pieces plain m s)
@@ -118,7 +122,9 @@ length-decoded [] = omega arith
 length-decoded (byte b ∷ ps) = omega (arith, length-decoded ps)
 length-decoded (unit p u ∷ []) = omega (arith, encode-few u)
 length-decoded (unit p u ∷ byte b ∷ ps) = omega (arith, encode-few u, length-append (encode u) (b ∷ decoded ps), length-decoded ps)
-length-decoded (unit p u ∷ unit q w ∷ ps) = length-by-cases (isHigh u && isLow w) _ _ _ (omega (arith, encode-few (paired u w), length-append (encode (paired u w)) (decoded ps), length-decoded ps)) (omega (arith, encode-few u, length-append (encode u) (decoded (unit q w ∷ ps)), length-decoded (unit q w ∷ ps)))
+length-decoded (unit p u ∷ unit q w ∷ ps) =
+    length-by-cases (isHigh u && isLow w) _ _ _ (omega (arith, encode-few (paired u w), length-append (encode (paired u w)) (decoded ps), length-decoded ps))
+    (omega (arith, encode-few u, length-append (encode u) (decoded (unit q w ∷ ps)), length-decoded (unit q w ∷ ps)))
 
 -- a string stands for no more bytes than it has
 pub decode-short : (raw : List ℕ) → length (decode raw) ≤ length raw
@@ -154,7 +160,8 @@ module _ {x : List ℕ} {at end : ℕ} (s : Span x at end) where
   at-end l = ap decode (no-byte l)
 
 -- the same, where the tests are Booleans
-first-stands : {x : List ℕ} {at end : ℕ} → Span x at end → ltb at end ≡ true → not (eqb (getD x at 0) 92) ≡ true → decodeAt x at end ≡ getD x at 0 ∷ decodeAt x (at + 1) end
+first-stands : {x : List ℕ} {at end : ℕ} → Span x at end → ltb at end ≡ true → not (eqb (getD x at 0) 92) ≡ true
+    → decodeAt x at end ≡ getD x at 0 ∷ decodeAt x (at + 1) end
 first-stands {x} {at} {end} s l n = at-plain s (ltb-true at end l) (eqb-false (getD x at 0) 92 (not-true (eqb (getD x at 0) 92) n))
 
 each : (a b c d e : Bool) → a && b && c && d && e ≡ true → (a ≡ true) × (b ≡ true) × (c ≡ true) × (d ≡ true) × (e ≡ true)
@@ -165,7 +172,8 @@ each a b c d e q =
     (both-left a b q1, both-right a b q1, both-right (a && b) c q2, both-right (a && b && c) d q3, both-right (a && b && c && d) e q)
 
 -- strings that begin with different bytes, neither of them a backslash, do not stand for the same bytes
-pub apart-differ : {x : List ℕ} {at end at2 end2 : ℕ} → Span x at end → Span x at2 end2 → beginApart x at end at2 end2 ≡ true → same (decodeAt x at end) (decodeAt x at2 end2) ≡ false
+pub apart-differ : {x : List ℕ} {at end at2 end2 : ℕ} → Span x at end → Span x at2 end2 → beginApart x at end at2 end2 ≡ true
+    → same (decodeAt x at end) (decodeAt x at2 end2) ≡ false
 unfolding beginApart same
 apart-differ {x} {at} {end} {at2} {end2} s t q =
     let a = getD x at 0 in
@@ -231,8 +239,11 @@ rising-unpaired : (n e : ℕ) (ps : List Piece) → Ordered n e ps → Rising n 
 unfolding unpaired alone Ordered
 rising-unpaired n e [] r = rising-none n e
 rising-unpaired n e (byte b ∷ ps) r = rising-unpaired n e ps r
-rising-unpaired n e (unit p u ∷ []) r = rw (← append-nil (cond (leb 0xD800 u && leb u 0xDFFF) (p ∷ []) [])) (rising-alone (leb 0xD800 u && leb u 0xDFFF) n e p [] (r .0) (r .1) (rising-none (p + 1) e))
-rising-unpaired n e (unit p u ∷ byte b ∷ ps) r = rising-alone (leb 0xD800 u && leb u 0xDFFF) n e p (unpaired ps) (r .0) (r .1) (rising-unpaired (p + 1) e ps (r .2))
+rising-unpaired n e (unit p u ∷ []) r =
+    rw (← append-nil (cond (leb 0xD800 u && leb u 0xDFFF) (p ∷ []) []))
+    (rising-alone (leb 0xD800 u && leb u 0xDFFF) n e p [] (r .0) (r .1) (rising-none (p + 1) e))
+rising-unpaired n e (unit p u ∷ byte b ∷ ps) r =
+    rising-alone (leb 0xD800 u && leb u 0xDFFF) n e p (unpaired ps) (r .0) (r .1) (rising-unpaired (p + 1) e ps (r .2))
 rising-unpaired n e (unit p u ∷ unit q w ∷ ps) r =
     rising-by-cases (isHigh u && isLow w) n e _ _
     (rising-from n (q + 1) e (unpaired ps) (omega (arith, r .0, r .2 .0)) (rising-unpaired (q + 1) e ps (r .2 .2)))
@@ -257,8 +268,12 @@ after-if false m n k h l = l
 ordered-pieces : (m e : ℕ) (k : Mark) (n : ℕ) (s : List ℕ) → After m k n → n + length s ≤ e → Ordered m e (pieces k n s)
 unfolding pieces next ended Ordered After
 ordered-pieces m e k n [] h f = tt
-ordered-pieces m e plain n (b ∷ s) h f = ordered-if (eqb b 92) m e b _ (ordered-pieces m e (cond (eqb b 92) slash plain) (n + 1) s (after-if (eqb b 92) m (n + 1) slash (omega arith) (omega arith)) (omega arith))
-ordered-pieces m e slash n (b ∷ s) h f = ordered-if (eqb b 117) m e (escaped b) _ (ordered-pieces m e (cond (eqb b 117) (hex 3 0) plain) (n + 1) s (after-if (eqb b 117) m (n + 1) (hex 3 0) (omega arith) (omega arith)) (omega arith))
+ordered-pieces m e plain n (b ∷ s) h f =
+    ordered-if (eqb b 92) m e b _
+    (ordered-pieces m e (cond (eqb b 92) slash plain) (n + 1) s (after-if (eqb b 92) m (n + 1) slash (omega arith) (omega arith)) (omega arith))
+ordered-pieces m e slash n (b ∷ s) h f =
+    ordered-if (eqb b 117) m e (escaped b) _
+    (ordered-pieces m e (cond (eqb b 117) (hex 3 0) plain) (n + 1) s (after-if (eqb b 117) m (n + 1) (hex 3 0) (omega arith) (omega arith)) (omega arith))
 ordered-pieces m e (hex zero u) n (b ∷ s) h f = (omega arith, omega arith, ordered-pieces (n - 5 + 1) e plain (n + 1) s (omega arith) (omega arith))
 ordered-pieces m e (hex (suc j) u) n (b ∷ s) h f = ordered-pieces m e (hex j (u * 16 + hexValue b)) (n + 1) s (omega arith) (omega arith)
 

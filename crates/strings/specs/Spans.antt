@@ -1,4 +1,5 @@
--- What the public functions tell of a string of a text. A string is given by the text x and two offsets: at, just after its opening quote, and end, its closing quote.
+-- What the public functions tell of a string of a text. A string is given by the text x and two offsets: at, just after its opening quote, and end, its
+-- closing quote.
 use Prim.Native.Nat.{ℕ, _+_, _-_, _≤_, _<_}
 use mathlib.Core.Path.{_≡_}
 use mathlib.Core.Bool.{Bool, false, not, _&&_, _||_}

@@ -8,7 +8,8 @@ ghost use Rattle.strings.specs.Strings.{hexValue, escaped, paired};
 ghost use Rattle.strings.specs.Spans.{Span, decodeAt, unpairedAt, ahead, away, Steps, Copied, firstOf, hasByte};
 ghost use Rattle.strings.specs.Parts.{unitAt, Halves, Escapes, Spreads};
 
-// A place in a string that is being decoded. `word` holds the bytes of a character that are still to be handed out, the next one in its lowest eight bits, and `left` how many they are.
+// A place in a string that is being decoded. `word` holds the bytes of a character that are still to be handed out, the next one in its lowest eight
+// bits, and `left` how many they are.
 pub struct Cursor {
     pub at: usize,
     pub end: usize,
@@ -28,7 +29,8 @@ pub enum Found {
     Nothing,
 }
 
-// What a backslash begins: nothing whole before the string ends; an escape of two bytes, for a byte; \uXXXX or a pair of them, for a character, up to an offset.
+// What a backslash begins: nothing whole before the string ends; an escape of two bytes, for a byte; \uXXXX or a pair of them, for a character, up to an
+// offset.
 enum Escape {
     Cut,
     Short(u8),

@@ -81,4 +81,5 @@ module _ (object : ℕ) where
 -- a table has the rule's answers
 pub permitted-at : (rows : List ℕ) (object code : ℕ) → tabled rows ≡ true → object < 34 → code < 8 → eqb (bitAnd (getD rows object 0 / 2 ^ code) 1) 1 ≡ isPermitted object code
 unfolding tabled bitAt
-permitted-at rows object code e h l = agree-equal _ _ (each-below (λ c. agree (bitAt rows object c) (isPermitted object c)) 8 code (each-below (λ o. allFrom (λ c. agree (bitAt rows o c) (isPermitted o c)) 0 8) 34 object e h) l)
+permitted-at rows object code e h l =
+    agree-equal _ _ (each-below (λ c. agree (bitAt rows object c) (isPermitted object c)) 8 code (each-below (λ o. allFrom (λ c. agree (bitAt rows o c) (isPermitted o c)) 0 8) 34 object e h) l)

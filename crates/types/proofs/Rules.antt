@@ -8,6 +8,13 @@ use Rattle.types.proofs.Rows.{depth-past, values-depth-past, permitted-
 
 pub ruleset lods = (no-lod-empty, no-lod-first, is-lod-one, no-lod-point, no-lod-short, no-lod-second, is-lod-both, no-lod-long)
 
-pub ruleset types = (
-    needs, looks-short, looks-b, looks-t, looks-escape, looks-other, under-digit, digit-from, step-span, added-none, added-byte, name-no-plus, name-plus,
-    lods, depth-past, values-depth-past, permitted-past, permitted-other, permitted-at)
+-- a look at a type of the second level
+pub ruleset seconds = (looks-short, looks-b, looks-t, looks-escape, looks-other)
+
+-- a plus sign
+pub ruleset adds = (added-none, added-byte, name-no-plus, name-plus)
+
+-- the tables
+pub ruleset tables = (depth-past, values-depth-past, permitted-past, permitted-other, permitted-at)
+
+pub ruleset types = (needs, seconds, adds, tables, under-digit, digit-from, step-span, lods)

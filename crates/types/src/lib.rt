@@ -1,4 +1,5 @@
-// What a string that names a type or a level of detail looks like, and what a type's code tells: which geometries an object may have, and how deep a geometry is.
+// What a string that names a type or a level of detail looks like, and what a type's code tells: which geometries an object may have, and how deep a
+// geometry is.
 ghost use Prim.Native.Nat.{_<_};
 ghost use mathlib.Core.Path.{_≡_};
 ghost use mathlib.Core.Bool.{true};

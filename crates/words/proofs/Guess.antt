@@ -30,10 +30,10 @@ module _ (words : List String) (d : inPlace words 1 words ≡ true) (t : List �
   unfolding isAt
   placed p e z = record {
     code = λ q.
-      let h : k < length words = ltb-true k (length words) (both-left _ _ z) in
-      let s : w ≡ ascii (getD words k "") = same-equal w _ (both-right (ltb k (length words)) _ z) in
-      let y : w ≡ t = same-equal w t (sym e ∙ q) in
-      rw (← y, s, p) (word-code words d k h);
+        let h : k < length words = ltb-true k (length words) (both-left _ _ z) in
+        let s : w ≡ ascii (getD words k "") = same-equal w _ (both-right (ltb k (length words)) _ z) in
+        let y : w ≡ t = same-equal w t (sym e ∙ q) in
+        rw (← y, s, p) (word-code words d k h);
   }
 
 module _ (t : List ℕ) (i k : ℕ) (r : Bool) (w : List ℕ) where

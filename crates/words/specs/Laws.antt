@@ -1,4 +1,5 @@
--- Laws of the codes: a text has a code exactly if it is one of the words; the code is the place of the word that the text is; no two words of a list are the same; a string that does not look like a type of the second level is none.
+-- Laws of the codes: a text has a code exactly if it is one of the words; the code is the place of the word that the text is; no two words of a list are
+-- the same; a string that does not look like a type of the second level is none.
 use Prim.Native.Nat.{ℕ, zero, suc, _+_, _-_, _≤_, _<_}
 use Prim.Native.String.{String}
 use native.Mathlib.Omega.{arith}
@@ -39,7 +40,8 @@ most-if false n m k h l = l
 most-from : (n : ℕ) (words : List String) (t : List ℕ) → 1 ≤ n → codeFrom n words t < n + length words
 unfolding codeFrom
 most-from n [] t h = omega arith
-most-from n (w ∷ words) t h = most-if (same (ascii w) t) n (codeFrom (n + 1) words t) (n + suc (length words)) (omega arith) (omega (arith, most-from (n + 1) words t (omega arith)))
+most-from n (w ∷ words) t h =
+    most-if (same (ascii w) t) n (codeFrom (n + 1) words t) (n + suc (length words)) (omega arith) (omega (arith, most-from (n + 1) words t (omega arith)))
 
 pub code-most : (words : List String) (t : List ℕ) → codeOf words t ≤ length words
 unfolding codeOf
@@ -50,7 +52,8 @@ record Placed (n k : ℕ) (words : List String) (t : List ℕ) : Type 0 where
   pub least : n ≤ k
   pub word : t ≡ ascii (getD words (k - n) "")
 
-placed-if : (b : Bool) (n k m : ℕ) (w : String) (words : List String) (t : List ℕ) → same (ascii w) t ≡ b → (m ≡ k → Placed (n + 1) k words t) → cond b n m ≡ k → Placed n k (w ∷ words) t
+placed-if : (b : Bool) (n k m : ℕ) (w : String) (words : List String) (t : List ℕ) → same (ascii w) t ≡ b → (m ≡ k → Placed (n + 1) k words t) → cond b n m ≡ k
+    → Placed n k (w ∷ words) t
 placed-if true n k m w words t s f e =
     let z : k - n ≡ 0 = omega arith in
     record { least = omega arith; word = rw z (sym (same-equal (ascii w) t s)) }
@@ -85,7 +88,8 @@ pub word-code : (words : List String) → inPlace words 1 words ≡ true → (k 
 word-code words e k h = place-from words 1 words k e h ∙ omega arith
 
 -- and words at different places are different texts
-pub words-differ : (words : List String) → inPlace words 1 words ≡ true → (j k : ℕ) → j < length words → k < length words → ascii (getD words j "") ≡ ascii (getD words k "") → j ≡ k
+pub words-differ : (words : List String) → inPlace words 1 words ≡ true → (j k : ℕ) → j < length words → k < length words
+    → ascii (getD words j "") ≡ ascii (getD words k "") → j ≡ k
 words-differ words e j k h l q = omega (arith, word-code words e j h, word-code words e k l, ap (codeOf words) q)
 
 -- so it is in each of the three lists
@@ -139,7 +143,8 @@ second-word : (t : List ℕ) (k : ℕ) → codeOf objectWords t ≡ k → 16 < k
 second-word t k e h =
     let z : k - 1 ≡ 16 + (k - 17) = omega arith in
     let w : t ≡ ascii (getD objectWords (16 + (k - 17)) "") = rw (← z) (code-word objectWords t k e (omega arith)) in
-    rw (w, ← getD-drop 16 objectWords (k - 17) "") (long-at (drop 16 objectWords) (k - 17) second-long (second-count k (omega (arith, code-most objectWords t)) h))
+    rw (w, ← getD-drop 16 objectWords (k - 17) "")
+    (long-at (drop 16 objectWords) (k - 17) second-long (second-count k (omega (arith, code-most objectWords t)) h))
 
 -- the first byte of such a type is B or T, or a backslash stands in its place
 last-of : (o c : Bool) → c ≡ true → (o || c) ≡ true

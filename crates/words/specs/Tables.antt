@@ -1,4 +1,5 @@
--- What the functions are asked and tell besides the codes: the number of the first of some words that a text is, where the words stand one after the other in a string of bytes; a table of the permitted geometries; and a look at a string before it is compared with the types.
+-- What the functions are asked and tell besides the codes: the number of the first of some words that a text is, where the words stand one after the
+-- other in a string of bytes; a table of the permitted geometries; and a look at a string before it is compared with the types.
 use Prim.Native.Nat.{ℕ, _+_, _-_, _/_, _^_}
 use Prim.Native.String.{String}
 use mathlib.Core.Bool.{Bool, true, cond, _&&_, _||_}
@@ -42,6 +43,7 @@ unfoldable pub tabled : List ℕ → Bool
 unfolding bitAt isPermitted
 tabled rows = allFrom (λ o. allFrom (λ c. agree (bitAt rows o c) (isPermitted o c)) 0 8) 0 34
 
--- may the string of the text x from at up to end be a type of the second level? Those have at least ten bytes and begin with B or T; an escape may stand for the first byte.
+-- may the string of the text x from at up to end be a type of the second level? Those have at least ten bytes and begin with B or T; an escape may stand
+-- for the first byte.
 unfoldable pub looksSecondLevel : List ℕ → ℕ → ℕ → Bool
 looksSecondLevel x at end = leb 10 (end - at) && (eqb (getD x at 0) 66 || eqb (getD x at 0) 84 || eqb (getD x at 0) 92)

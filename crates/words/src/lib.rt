@@ -244,7 +244,10 @@ fn object_code_in(text: &[u8], at: usize, end: usize) -> usize
         text,
         at,
         end,
-        b"BridgeBuildingCityFurnitureCityObjectGroupGenericCityObjectLandUseOtherConstructionPlantCoverRailwayRoadSolitaryVegetationObjectTINReliefTransportSquareTunnelWaterBodyWaterwayBridgePartBridgeInstallationBridgeConstructiveElementBridgeRoomBridgeFurnitureBuildingPartBuildingInstallationBuildingConstructiveElementBuildingFurnitureBuildingStoreyBuildingRoomBuildingUnitTunnelPartTunnelInstallationTunnelConstructiveElementTunnelHollowSpaceTunnelFurniture",
+        b"BridgeBuildingCityFurnitureCityObjectGroupGenericCityObjectLandUseOtherConstructionPlantCoverRailwayRoadSolitaryVegetationObjectTINRelief\
+        TransportSquareTunnelWaterBodyWaterwayBridgePartBridgeInstallationBridgeConstructiveElementBridgeRoomBridgeFurnitureBuildingPart\
+        BuildingInstallationBuildingConstructiveElementBuildingFurnitureBuildingStoreyBuildingRoomBuildingUnitTunnelPartTunnelInstallation\
+        TunnelConstructiveElementTunnelHollowSpaceTunnelFurniture",
         &ends,
     )
 }
@@ -434,7 +437,8 @@ fn surface_code_in(text: &[u8], at: usize, end: usize) -> usize
         text,
         at,
         end,
-        b"RoofSurfaceGroundSurfaceWallSurfaceClosureSurfaceOuterCeilingSurfaceOuterFloorSurfaceWindowDoorInteriorWallSurfaceCeilingSurfaceFloorSurfaceWaterSurfaceWaterGroundSurfaceWaterClosureSurfaceTrafficAreaAuxiliaryTrafficAreaTransportationMarkingTransportationHole",
+        b"RoofSurfaceGroundSurfaceWallSurfaceClosureSurfaceOuterCeilingSurfaceOuterFloorSurfaceWindowDoorInteriorWallSurfaceCeilingSurfaceFloorSurface\
+        WaterSurfaceWaterGroundSurfaceWaterClosureSurfaceTrafficAreaAuxiliaryTrafficAreaTransportationMarkingTransportationHole",
         &ends,
     )
 }

@@ -8,7 +8,9 @@ use Rattle.compare.proofs.same_plain.Statement.{statement}
 use Rattle.compare.proofs.same_plain.Tie as tie
 
 abbrev Inv-loop : tie.InvT-loop
-Inv-loop text at end at2 i₀ j₀ i j = (Span text i end) × (Span text j (at2 + (end - at))) × (i + at2 ≡ j + at) × (same (decodeAt text at end) (decodeAt text at2 (at2 + (end - at))) ≡ same (decodeAt text i end) (decodeAt text j (at2 + (end - at))))
+Inv-loop text at end at2 i₀ j₀ i j =
+    (Span text i end) × (Span text j (at2 + (end - at))) × (i + at2 ≡ j + at) ×
+    (same (decodeAt text at end) (decodeAt text at2 (at2 + (end - at))) ≡ same (decodeAt text i end) (decodeAt text j (at2 + (end - at))))
 
 abbrev μ-loop : tie.MeasureT-loop
 μ-loop text at end at2 i₀ j₀ i j = end - i

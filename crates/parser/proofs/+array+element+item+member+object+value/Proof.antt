@@ -1,4 +1,5 @@
--- The proof of the cycle of calls {array, element, item, member, object, value}. The measure goes by the levels left: four times as many for a value, one more for an item, two more for an element or a member, and three more for a container.
+-- The proof of the cycle of calls {array, element, item, member, object, value}. The measure goes by the levels left: four times as many for a value,
+-- one more for an item, two more for an element or a member, and three more for a container.
 -- A container's loop knows that from its opening on the machine comes to where the next value, or the next name, starts, and that the words of those before stand in the table.
 use Prim.Native.Nat.{ℕ, _+_, _-_, _*_, _<_}
 use native.Mathlib.Omega.{arith}
