@@ -5,6 +5,8 @@ use native.Mathlib.Omega.{arith}
 use mathlib.Core.Path.{_≡_, refl, sym, _∙_}
 use mathlib.Core.Bool.{Bool, true, false, _&&_}
 use mathlib.Core.List.{List}
+use mir.Syntax.{w64}
+use mir.Val.{Fits}
 use lib.ListN.{length, getD}
 use lib.Dec.{ltb}
 use borrow.Author.Tests.{ltb-true}
@@ -51,5 +53,6 @@ module _ (words : List String) (t : List ℕ) (i : ℕ) (r : Bool) (f : Guessed 
   pub guess-right : i + 1 ≡ codeOf words t
   guess-right = sym (f .code q)
 
-  pub guess-within : i < length words
-  guess-within = omega (arith, f .code q, code-most words t)
+  -- and its code, for there are not many words
+  pub guess-fits : ltb (length words) 256 ≡ true → Fits w64 (i + 1)
+  guess-fits h = omega (arith, f .code q, code-most words t, ltb-true (length words) 256 h)

@@ -7,10 +7,5 @@ pub apart-spec : {M : Type 1} → statement M
 apart-spec =
     tie.close
     (tie.spec
-    (λ c. search scans)
-    (λ c. search scans)
-    (λ c. search scans)
-    (λ c. search scans)
-    (λ c. search scans)
-    (λ c. search scans)
+    (λ c. search scans) (λ c. search scans) (λ c. search scans) (λ c. search scans) (λ c. search scans) (λ c. search scans)
     (λ c. search scans))

@@ -7,14 +7,5 @@ pub is-word-spec : {M : Type 1} → statement M
 is-word-spec =
     tie.close
     (tie.spec
-    (λ c. search scans)
-    (λ c. search scans)
-    (λ c. search scans)
-    (λ c. search scans)
-    (λ c. search scans)
-    (λ c κs. search scans)
-    (λ c. search scans)
-    (λ c κs. search scans)
-    (λ c. search scans)
-    (λ c κs. search scans)
-    (λ c. search scans))
+    (λ c. search scans) (λ c. search scans) (λ c. search scans) (λ c. search scans) (λ c. search scans) (λ c κs. search scans)
+    (λ c. search scans) (λ c κs. search scans) (λ c. search scans) (λ c κs. search scans) (λ c. search scans))

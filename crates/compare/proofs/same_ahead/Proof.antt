@@ -18,18 +18,6 @@ same-ahead-spec =
     (tie.spec
     Inv-loop
     μ-loop
-    (λ c. search turns)
-    (λ c κs. search turns)
-    (λ c κs. search turns)
-    (λ c. search turns)
-    (λ c. search turns)
-    (λ c. search turns)
-    (λ c. search turns)
-    (λ c. search turns)
-    (λ c. search turns)
-    (λ c. search turns)
-    (λ c. search turns)
-    (λ c. search turns)
-    (λ c. search turns)
-    (λ c. search turns)
-    (λ c. search turns))
+    (λ c. search turns) (λ c κs. search turns) (λ c κs. search turns) (λ c. search turns) (λ c. search turns) (λ c. search turns)
+    (λ c. search turns) (λ c. search turns) (λ c. search turns) (λ c. search turns) (λ c. search turns) (λ c. search turns)
+    (λ c. search turns) (λ c. search turns) (λ c. search turns))

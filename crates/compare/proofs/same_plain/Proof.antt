@@ -21,13 +21,5 @@ same-plain-spec =
     (tie.spec
     Inv-loop
     μ-loop
-    (λ c. search scans)
-    (λ c. search scans)
-    (λ c. search scans)
-    (λ c. search scans)
-    (λ c. search scans)
-    (λ c. search scans)
-    (λ c. search scans)
-    (λ c. search scans)
-    (λ c. search scans)
-    (λ c. search scans))
+    (λ c. search scans) (λ c. search scans) (λ c. search scans) (λ c. search scans) (λ c. search scans) (λ c. search scans)
+    (λ c. search scans) (λ c. search scans) (λ c. search scans) (λ c. search scans))

@@ -7,9 +7,4 @@ pub same-string-spec : {M : Type 1} → statement M
 same-string-spec =
     tie.close
     (tie.spec
-    (λ c. search scans)
-    (λ c. search scans)
-    (λ c κs. search scans)
-    (λ c. search scans)
-    (λ c κs. search scans)
-    (λ c. search scans))
+    (λ c. search scans) (λ c. search scans) (λ c κs. search scans) (λ c. search scans) (λ c κs. search scans) (λ c. search scans))

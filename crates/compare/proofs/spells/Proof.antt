@@ -20,13 +20,5 @@ spells-spec =
     (tie.spec
     Inv-loop
     μ-loop
-    (λ c. search scans)
-    (λ c. search scans)
-    (λ c. search scans)
-    (λ c. search scans)
-    (λ c. search scans)
-    (λ c. search scans)
-    (λ c. search scans)
-    (λ c. search scans)
-    (λ c. search scans)
-    (λ c. search scans))
+    (λ c. search scans) (λ c. search scans) (λ c. search scans) (λ c. search scans) (λ c. search scans) (λ c. search scans)
+    (λ c. search scans) (λ c. search scans) (λ c. search scans) (λ c. search scans))

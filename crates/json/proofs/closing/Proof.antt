@@ -7,9 +7,4 @@ pub closing-spec : {M : Type 1} → statement M
 closing-spec =
     tie.close
     (tie.spec
-    (λ c κs. search lexes)
-    (λ c. search lexes)
-    (λ c. search lexes)
-    (λ c. search lexes)
-    (λ c κs. search lexes)
-    (λ c. search lexes))
+    (λ c κs. search lexes) (λ c. search lexes) (λ c. search lexes) (λ c. search lexes) (λ c κs. search lexes) (λ c. search lexes))

@@ -7,15 +7,5 @@ pub digits-end-spec : {M : Type 1} → statement M
 digits-end-spec =
     tie.close
     (tie.spec
-    (λ c. search scalars)
-    (λ c. search scalars)
-    (λ c. search scalars)
-    (λ c. search scalars)
-    (λ c. search scalars)
-    (λ c κs. search scalars)
-    (λ c. search scalars)
-    (λ c. search scalars)
-    (λ c. search scalars)
-    (λ c. search scalars)
-    (λ c. search scalars)
-    (λ c. search scalars))
+    (λ c. search scalars) (λ c. search scalars) (λ c. search scalars) (λ c. search scalars) (λ c. search scalars) (λ c κs. search scalars)
+    (λ c. search scalars) (λ c. search scalars) (λ c. search scalars) (λ c. search scalars) (λ c. search scalars) (λ c. search scalars))

@@ -7,12 +7,5 @@ pub escape-spec : {M : Type 1} → statement M
 escape-spec =
     tie.close
     (tie.spec
-    (λ c. search lexes)
-    (λ c. search lexes)
-    (λ c. search lexes)
-    (λ c κs. search lexes)
-    (λ c. search lexes)
-    (λ c κs. search lexes)
-    (λ c. search lexes)
-    (λ c. search lexes)
-    (λ c. search lexes))
+    (λ c. search lexes) (λ c. search lexes) (λ c. search lexes) (λ c κs. search lexes) (λ c. search lexes) (λ c κs. search lexes)
+    (λ c. search lexes) (λ c. search lexes) (λ c. search lexes))

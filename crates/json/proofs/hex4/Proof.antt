@@ -18,13 +18,5 @@ hex4-spec =
     (tie.spec
     Inv-loop
     μ-loop
-    (λ c. search lexes)
-    (λ c. search lexes)
-    (λ c. search lexes)
-    (λ c κs. search lexes)
-    (λ c. search lexes)
-    (λ c. search lexes)
-    (λ c. search lexes)
-    (λ c. search lexes)
-    (λ c. search lexes)
-    (λ c. search lexes))
+    (λ c. search lexes) (λ c. search lexes) (λ c. search lexes) (λ c κs. search lexes) (λ c. search lexes) (λ c. search lexes)
+    (λ c. search lexes) (λ c. search lexes) (λ c. search lexes) (λ c. search lexes))

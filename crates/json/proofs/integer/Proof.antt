@@ -7,6 +7,4 @@ pub integer-spec : {M : Type 1} → statement M
 integer-spec =
     tie.close
     (tie.spec
-    (λ c κs. search lexes)
-    (λ c κs. search lexes)
-    (λ c. search lexes))
+    (λ c κs. search lexes) (λ c κs. search lexes) (λ c. search lexes))

@@ -7,8 +7,4 @@ pub is-blank-spec : {M : Type 1} → statement M
 is-blank-spec =
     tie.close
     (tie.spec
-    (λ c. search bytes)
-    (λ c. search bytes)
-    (λ c. search bytes)
-    (λ c. search bytes)
-    (λ c. search bytes))
+    (λ c. search bytes) (λ c. search bytes) (λ c. search bytes) (λ c. search bytes) (λ c. search bytes))

@@ -7,5 +7,4 @@ pub is-escape-spec : {M : Type 1} → statement M
 is-escape-spec =
     tie.close
     (tie.spec
-    (λ c. search bytes)
-    (λ c. search bytes))
+    (λ c. search bytes) (λ c. search bytes))

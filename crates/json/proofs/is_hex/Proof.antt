@@ -7,10 +7,5 @@ pub is-hex-spec : {M : Type 1} → statement M
 is-hex-spec =
     tie.close
     (tie.spec
-    (λ c. search bytes)
-    (λ c. search bytes)
-    (λ c. search bytes)
-    (λ c. search bytes)
-    (λ c. search bytes)
-    (λ c. search bytes)
+    (λ c. search bytes) (λ c. search bytes) (λ c. search bytes) (λ c. search bytes) (λ c. search bytes) (λ c. search bytes)
     (λ c. search bytes))

@@ -7,12 +7,5 @@ pub maybe-exponent-spec : {M : Type 1} → statement M
 maybe-exponent-spec =
     tie.close
     (tie.spec
-    (λ c. search lexes)
-    (λ c. search lexes)
-    (λ c. search lexes)
-    (λ c κs. search lexes)
-    (λ c. search lexes)
-    (λ c κs. search lexes)
-    (λ c. search lexes)
-    (λ c. search lexes)
-    (λ c. search lexes))
+    (λ c. search lexes) (λ c. search lexes) (λ c. search lexes) (λ c κs. search lexes) (λ c. search lexes) (λ c κs. search lexes)
+    (λ c. search lexes) (λ c. search lexes) (λ c. search lexes))

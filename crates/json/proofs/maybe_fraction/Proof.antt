@@ -7,14 +7,5 @@ pub maybe-fraction-spec : {M : Type 1} → statement M
 maybe-fraction-spec =
     tie.close
     (tie.spec
-    (λ c. search lexes)
-    (λ c. search lexes)
-    (λ c κs. search lexes)
-    (λ c. search lexes)
-    (λ c. search lexes)
-    (λ c κs. search lexes)
-    (λ c. search lexes)
-    (λ c. search lexes)
-    (λ c. search lexes)
-    (λ c κs. search lexes)
-    (λ c. search lexes))
+    (λ c. search lexes) (λ c. search lexes) (λ c κs. search lexes) (λ c. search lexes) (λ c. search lexes) (λ c κs. search lexes)
+    (λ c. search lexes) (λ c. search lexes) (λ c. search lexes) (λ c κs. search lexes) (λ c. search lexes))

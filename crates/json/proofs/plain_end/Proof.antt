@@ -20,14 +20,7 @@ plain-end-spec =
     (tie.spec
     Inv-loop
     μ-loop
-    (λ c. search lexes)
-    (λ c. search lexes)
-    (λ c κs. search lexes)
-    (λ c. search lexes)
+    (λ c. search lexes) (λ c. search lexes) (λ c κs. search lexes) (λ c. search lexes)
     (λ c. mark-fits _)
     (λ c. part-fits _ _ (omega arith))
-    (λ c. search lexes)
-    (λ c. search lexes)
-    (λ c. search lexes)
-    (λ c. search lexes)
-    (λ c. search lexes))
+    (λ c. search lexes) (λ c. search lexes) (λ c. search lexes) (λ c. search lexes) (λ c. search lexes))

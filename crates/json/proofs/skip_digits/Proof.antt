@@ -18,11 +18,5 @@ skip-digits-spec =
     (tie.spec
     Inv-loop
     μ-loop
-    (λ c. search lexes)
-    (λ c. search lexes)
-    (λ c κs. search lexes)
-    (λ c. search lexes)
-    (λ c. search lexes)
-    (λ c. search lexes)
-    (λ c. search lexes)
-    (λ c. search lexes))
+    (λ c. search lexes) (λ c. search lexes) (λ c κs. search lexes) (λ c. search lexes) (λ c. search lexes) (λ c. search lexes)
+    (λ c. search lexes) (λ c. search lexes))

@@ -7,10 +7,5 @@ pub some-digits-spec : {M : Type 1} → statement M
 some-digits-spec =
     tie.close
     (tie.spec
-    (λ c. search lexes)
-    (λ c. search lexes)
-    (λ c κs. search lexes)
-    (λ c. search lexes)
-    (λ c. search lexes)
-    (λ c κs. search lexes)
+    (λ c. search lexes) (λ c. search lexes) (λ c κs. search lexes) (λ c. search lexes) (λ c. search lexes) (λ c κs. search lexes)
     (λ c. search lexes))

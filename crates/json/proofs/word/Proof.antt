@@ -18,13 +18,5 @@ word-spec =
     (tie.spec
     Inv-loop
     μ-loop
-    (λ c. search lexes)
-    (λ c. search lexes)
-    (λ c. search lexes)
-    (λ c. search lexes)
-    (λ c. search lexes)
-    (λ c. search lexes)
-    (λ c. search lexes)
-    (λ c. search lexes)
-    (λ c. search lexes)
-    (λ c. search lexes))
+    (λ c. search lexes) (λ c. search lexes) (λ c. search lexes) (λ c. search lexes) (λ c. search lexes) (λ c. search lexes)
+    (λ c. search lexes) (λ c. search lexes) (λ c. search lexes) (λ c. search lexes))

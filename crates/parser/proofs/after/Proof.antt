@@ -7,9 +7,4 @@ pub after-spec : {M : Type 1} → statement M
 after-spec =
     tie.close
     (tie.spec
-    (λ c κs. search walks)
-    (λ c. search walks)
-    (λ c. search walks)
-    (λ c. search walks)
-    (λ c. search walks)
-    (λ c. search walks))
+    (λ c κs. search walks) (λ c. search walks) (λ c. search walks) (λ c. search walks) (λ c. search walks) (λ c. search walks))

@@ -7,12 +7,5 @@ pub atom-spec : {M : Type 1} → statement M
 atom-spec =
     tie.close
     (tie.spec
-    (λ c κs. search walks)
-    (λ c. search walks)
-    (λ c. search walks)
-    (λ c. search walks)
-    (λ c κs. search walks)
-    (λ c. search walks)
-    (λ c. search walks)
-    (λ c. search walks)
-    (λ c. search walks))
+    (λ c κs. search walks) (λ c. search walks) (λ c. search walks) (λ c. search walks) (λ c κs. search walks) (λ c. search walks)
+    (λ c. search walks) (λ c. search walks) (λ c. search walks))

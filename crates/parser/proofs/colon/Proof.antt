@@ -7,12 +7,5 @@ pub colon-spec : {M : Type 1} → statement M
 colon-spec =
     tie.close
     (tie.spec
-    (λ c. search walks)
-    (λ c. search walks)
-    (λ c. search walks)
-    (λ c κs. search walks)
-    (λ c. search walks)
-    (λ c. search walks)
-    (λ c. search walks)
-    (λ c. search walks)
-    (λ c. search walks))
+    (λ c. search walks) (λ c. search walks) (λ c. search walks) (λ c κs. search walks) (λ c. search walks) (λ c. search walks)
+    (λ c. search walks) (λ c. search walks) (λ c. search walks))

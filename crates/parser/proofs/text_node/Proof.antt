@@ -7,13 +7,5 @@ pub text-node-spec : {M : Type 1} → statement M
 text-node-spec =
     tie.close
     (tie.spec
-    (λ c. search walks)
-    (λ c κs. search walks)
-    (λ c. search walks)
-    (λ c. search walks)
-    (λ c. search walks)
-    (λ c κs. search walks)
-    (λ c. search walks)
-    (λ c. search walks)
-    (λ c. search walks)
-    (λ c. search walks))
+    (λ c. search walks) (λ c κs. search walks) (λ c. search walks) (λ c. search walks) (λ c. search walks) (λ c κs. search walks)
+    (λ c. search walks) (λ c. search walks) (λ c. search walks) (λ c. search walks))

@@ -7,18 +7,6 @@ pub character-spec : {M : Type 1} → statement M
 character-spec =
     tie.close
     (tie.spec
-    (λ c. search strings)
-    (λ c κs. search strings)
-    (λ c. search strings)
-    (λ c. search strings)
-    (λ c. search strings)
-    (λ c. search strings)
-    (λ c. search strings)
-    (λ c κs. search strings)
-    (λ c. search strings)
-    (λ c. search strings)
-    (λ c. search strings)
-    (λ c. search strings)
-    (λ c κs. search strings)
-    (λ c. search strings)
-    (λ c. search strings))
+    (λ c. search strings) (λ c κs. search strings) (λ c. search strings) (λ c. search strings) (λ c. search strings) (λ c. search strings)
+    (λ c. search strings) (λ c κs. search strings) (λ c. search strings) (λ c. search strings) (λ c. search strings) (λ c. search strings)
+    (λ c κs. search strings) (λ c. search strings) (λ c. search strings))

@@ -18,15 +18,5 @@ copy-spec =
     (tie.spec
     Inv-loop
     μ-loop
-    (λ c. search turns)
-    (λ c. search turns)
-    (λ c κs. search turns)
-    (λ c. search turns)
-    (λ c. search turns)
-    (λ c. search turns)
-    (λ c. search turns)
-    (λ c. search turns)
-    (λ c. search turns)
-    (λ c. search turns)
-    (λ c. search turns)
-    (λ c. search turns))
+    (λ c. search turns) (λ c. search turns) (λ c κs. search turns) (λ c. search turns) (λ c. search turns) (λ c. search turns)
+    (λ c. search turns) (λ c. search turns) (λ c. search turns) (λ c. search turns) (λ c. search turns) (λ c. search turns))

@@ -7,13 +7,5 @@ pub escape-at-spec : {M : Type 1} → statement M
 escape-at-spec =
     tie.close
     (tie.spec
-    (λ c. search strings)
-    (λ c. search strings)
-    (λ c. search strings)
-    (λ c. search strings)
-    (λ c κs. search strings)
-    (λ c. search strings)
-    (λ c. search strings)
-    (λ c. search strings)
-    (λ c κs. search strings)
-    (λ c. search strings))
+    (λ c. search strings) (λ c. search strings) (λ c. search strings) (λ c. search strings) (λ c κs. search strings) (λ c. search strings)
+    (λ c. search strings) (λ c. search strings) (λ c κs. search strings) (λ c. search strings))

@@ -20,10 +20,5 @@ escape-in-64-spec =
     (tie.spec
     Inv-loop
     μ-loop
-    (λ c. search scans)
-    (λ c. search scans)
-    (λ c. search scans)
-    (λ c. search scans)
-    (λ c. search scans)
-    (λ c. search scans)
+    (λ c. search scans) (λ c. search scans) (λ c. search scans) (λ c. search scans) (λ c. search scans) (λ c. search scans)
     (λ c. search scans))

@@ -7,16 +7,6 @@ pub fresh-spec : {M : Type 1} → statement M
 fresh-spec =
     tie.close
     (tie.spec
-    (λ c. search strings)
-    (λ c. search strings)
-    (λ c. search strings)
-    (λ c. search strings)
-    (λ c κs. search strings)
-    (λ c. search strings)
-    (λ c. search strings)
-    (λ c. search strings)
-    (λ c. search strings)
-    (λ c κs. search strings)
-    (λ c. search strings)
-    (λ c. search strings)
+    (λ c. search strings) (λ c. search strings) (λ c. search strings) (λ c. search strings) (λ c κs. search strings) (λ c. search strings)
+    (λ c. search strings) (λ c. search strings) (λ c. search strings) (λ c κs. search strings) (λ c. search strings) (λ c. search strings)
     (λ c. search strings))

@@ -19,12 +19,5 @@ has-escape-spec =
     (tie.spec
     Inv-loop
     μ-loop
-    (λ c. search scans)
-    (λ c. search scans)
-    (λ c κs. search scans)
-    (λ c. search scans)
-    (λ c. search scans)
-    (λ c. search scans)
-    (λ c. search scans)
-    (λ c κs. search scans)
-    (λ c. search scans))
+    (λ c. search scans) (λ c. search scans) (λ c κs. search scans) (λ c. search scans) (λ c. search scans) (λ c. search scans)
+    (λ c. search scans) (λ c κs. search scans) (λ c. search scans))

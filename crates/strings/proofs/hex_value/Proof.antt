@@ -7,14 +7,5 @@ pub hex-value-spec : {M : Type 1} → statement M
 hex-value-spec =
     tie.close
     (tie.spec
-    (λ c. search strings)
-    (λ c κs. search strings)
-    (λ c. search strings)
-    (λ c. search strings)
-    (λ c κs. search strings)
-    (λ c. search strings)
-    (λ c. search strings)
-    (λ c. search strings)
-    (λ c κs. search strings)
-    (λ c. search strings)
-    (λ c. search strings))
+    (λ c. search strings) (λ c κs. search strings) (λ c. search strings) (λ c. search strings) (λ c κs. search strings) (λ c. search strings)
+    (λ c. search strings) (λ c. search strings) (λ c κs. search strings) (λ c. search strings) (λ c. search strings))

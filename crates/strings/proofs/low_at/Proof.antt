@@ -7,15 +7,5 @@ pub low-at-spec : {M : Type 1} → statement M
 low-at-spec =
     tie.close
     (tie.spec
-    (λ c. search strings)
-    (λ c. search strings)
-    (λ c. search strings)
-    (λ c. search strings)
-    (λ c. search strings)
-    (λ c. search strings)
-    (λ c. search strings)
-    (λ c. search strings)
-    (λ c κs. search strings)
-    (λ c. search strings)
-    (λ c. search strings)
-    (λ c. search strings))
+    (λ c. search strings) (λ c. search strings) (λ c. search strings) (λ c. search strings) (λ c. search strings) (λ c. search strings)
+    (λ c. search strings) (λ c. search strings) (λ c κs. search strings) (λ c. search strings) (λ c. search strings) (λ c. search strings))

@@ -7,8 +7,4 @@ pub next-spec : {M : Type 1} → statement M
 next-spec =
     tie.close
     (tie.spec
-    (λ c κs. search strings)
-    (λ c. search strings)
-    (λ c. search strings)
-    (λ c. search strings)
-    (λ c. search strings))
+    (λ c κs. search strings) (λ c. search strings) (λ c. search strings) (λ c. search strings) (λ c. search strings))

@@ -7,9 +7,4 @@ pub pair-spec : {M : Type 1} → statement M
 pair-spec =
     tie.close
     (tie.spec
-    (λ c. search strings)
-    (λ c. search strings)
-    (λ c. search strings)
-    (λ c. search strings)
-    (λ c. search strings)
-    (λ c. search strings))
+    (λ c. search strings) (λ c. search strings) (λ c. search strings) (λ c. search strings) (λ c. search strings) (λ c. search strings))

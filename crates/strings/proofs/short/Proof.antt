@@ -7,9 +7,4 @@ pub short-spec : {M : Type 1} → statement M
 short-spec =
     tie.close
     (tie.spec
-    (λ c. search strings)
-    (λ c. search strings)
-    (λ c. search strings)
-    (λ c. search strings)
-    (λ c. search strings)
-    (λ c. search strings))
+    (λ c. search strings) (λ c. search strings) (λ c. search strings) (λ c. search strings) (λ c. search strings) (λ c. search strings))

@@ -13,7 +13,5 @@ pub depth-of-spec : {M : Type 1} → statement M
 depth-of-spec =
     tie.close
     (tie.spec
-    (λ c. search types)
-    (λ c. search types)
-    (λ c. search types)
+    (λ c. search types) (λ c. search types) (λ c. search types)
     returns-2)

@@ -7,7 +7,4 @@ pub in-table-spec : {M : Type 1} → statement M
 in-table-spec =
     tie.close
     (tie.spec
-    (λ c. search types)
-    (λ c. search types)
-    (λ c. search types)
-    (λ c. search types))
+    (λ c. search types) (λ c. search types) (λ c. search types) (λ c. search types))

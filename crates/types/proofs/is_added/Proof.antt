@@ -7,8 +7,4 @@ pub is-added-spec : {M : Type 1} → statement M
 is-added-spec =
     tie.close
     (tie.spec
-    (λ c κs. search types)
-    (λ c. search types)
-    (λ c. search types)
-    (λ c. search types)
-    (λ c. search types))
+    (λ c κs. search types) (λ c. search types) (λ c. search types) (λ c. search types) (λ c. search types))

@@ -7,7 +7,4 @@ pub is-added-name-spec : {M : Type 1} → statement M
 is-added-name-spec =
     tie.close
     (tie.spec
-    (λ c κs. search types)
-    (λ c. search types)
-    (λ c κs. search types)
-    (λ c. search types))
+    (λ c κs. search types) (λ c. search types) (λ c κs. search types) (λ c. search types))

@@ -7,5 +7,4 @@ pub is-digit-spec : {M : Type 1} → statement M
 is-digit-spec =
     tie.close
     (tie.spec
-    (λ c. search types)
-    (λ c. search types))
+    (λ c. search types) (λ c. search types))

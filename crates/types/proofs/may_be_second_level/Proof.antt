@@ -7,10 +7,5 @@ pub may-be-second-level-spec : {M : Type 1} → statement M
 may-be-second-level-spec =
     tie.close
     (tie.spec
-    (λ c. search types)
-    (λ c. search types)
-    (λ c. search types)
-    (λ c. search types)
-    (λ c. search types)
-    (λ c. search types)
+    (λ c. search types) (λ c. search types) (λ c. search types) (λ c. search types) (λ c. search types) (λ c. search types)
     (λ c. search types))

@@ -13,8 +13,6 @@ pub permitted-spec : {M : Type 1} → statement M
 permitted-spec =
     tie.close
     (tie.spec
-    (λ c. search types)
-    (λ c. search types)
-    (λ c. search types)
+    (λ c. search types) (λ c. search types) (λ c. search types)
     in-table-requires
     (λ c. search types))

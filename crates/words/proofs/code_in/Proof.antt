@@ -19,17 +19,6 @@ code-in-spec =
     (tie.spec
     Inv-loop
     μ-loop
-    (λ c. search words)
-    (λ c. search words)
-    (λ c. search words)
-    (λ c κs. search words)
-    (λ c. search words)
-    (λ c. search words)
-    (λ c. search words)
-    (λ c κs. search words)
-    (λ c. search words)
-    (λ c. search words)
-    (λ c. search words)
-    (λ c. search words)
-    (λ c. search words)
-    (λ c. search words))
+    (λ c. search words) (λ c. search words) (λ c. search words) (λ c κs. search words) (λ c. search words) (λ c. search words)
+    (λ c. search words) (λ c κs. search words) (λ c. search words) (λ c. search words) (λ c. search words) (λ c. search words)
+    (λ c. search words) (λ c. search words))

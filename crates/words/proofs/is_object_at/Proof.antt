@@ -7,16 +7,6 @@ pub is-object-at-spec : {M : Type 1} → statement M
 is-object-at-spec =
     tie.close
     (tie.spec
-    (λ c κs. search words)
-    (λ c κs. search words)
-    (λ c κs. search words)
-    (λ c κs. search words)
-    (λ c κs. search words)
-    (λ c κs. search words)
-    (λ c. search words)
-    (λ c. search words)
-    (λ c. search words)
-    (λ c. search words)
-    (λ c. search words)
-    (λ c. search words)
+    (λ c κs. search words) (λ c κs. search words) (λ c κs. search words) (λ c κs. search words) (λ c κs. search words) (λ c κs. search words)
+    (λ c. search words) (λ c. search words) (λ c. search words) (λ c. search words) (λ c. search words) (λ c. search words)
     (λ c. search words))

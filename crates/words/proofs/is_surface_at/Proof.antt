@@ -7,10 +7,5 @@ pub is-surface-at-spec : {M : Type 1} → statement M
 is-surface-at-spec =
     tie.close
     (tie.spec
-    (λ c κs. search words)
-    (λ c κs. search words)
-    (λ c κs. search words)
-    (λ c. search words)
-    (λ c. search words)
-    (λ c. search words)
+    (λ c κs. search words) (λ c κs. search words) (λ c κs. search words) (λ c. search words) (λ c. search words) (λ c. search words)
     (λ c. search words))
