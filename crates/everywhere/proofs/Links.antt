@@ -1,5 +1,5 @@
 -- Chains of names: following one, and one name more.
-use Prim.Native.Nat.{ℕ, _+_, _-_, _/_, _≤_, _<_, min}
+use Prim.Native.Nat.{ℕ, _+_, _-_, _*_, _/_, _^_, _≤_, _<_, min}
 use mathlib.Core.Path.{_≡_, refl, sym, ap, _∙_}
 use mathlib.Core.Bool.{Bool, true, false, cond, not, _||_}
 use mathlib.Core.List.{List, [], _∷_, map}
@@ -7,6 +7,8 @@ use native.Mathlib.Omega.{arith}
 use lib.ListN.{length, getD, set, length-set}
 use lib.Seq.{getD-set-same, getD-set-other}
 use lib.Dec.{eqb}
+use mir.Syntax.{w64}
+use mir.Val.{Fits}
 use borrow.Author.Needs.{needs}
 use borrow.Author.Tests.{eqb-true, eqb-false, not-true, not-false}
 use Rattle.utf8.specs.Utf8.{same}
@@ -71,8 +73,8 @@ module _ {x t ls : List ℕ} {head k : ℕ} where
       pub follow-some : {q : ℕ} → q ≡ getD t (e + 1) 0 → 1 ≤ q
       follow-some q = string-some (here .string) q
 
-      pub follow-fits : {p : ℕ} → p ≡ getD t e 0 → p + 1 ≤ length x
-      follow-fits q = string-fits (here .string) q
+      pub follow-fits : {p : ℕ} → p ≡ getD t e 0 → length x * 1 < 2 ^ 63 → Fits w64 (p + 1)
+      follow-fits q h = string-fits (here .string) q h
 
       pub follow-span : {p q : ℕ} → p ≡ getD t e 0 → q ≡ getD t (e + 1) 0 → Span x (p + 1) (q - 1)
       follow-span q r = string-span (here .string) q r
@@ -83,7 +85,8 @@ module _ {x t ls : List ℕ} {head k : ℕ} where
       pub follow-less : {m : ℕ} → m ≡ getD ls (e / 3) 0 → m < e
       follow-less q = rw q (here .back)
 
-      module _ {p q p′ q′ : ℕ} {b : Bool} (w : p ≡ getD t e 0) (y : q ≡ getD t (e + 1) 0) (w′ : p′ ≡ getD t k 0) (y′ : q′ ≡ getD t (k + 1) 0) (s : b ≡ same (decodeAt x (p + 1) (q - 1)) (decodeAt x (p′ + 1) (q′ - 1))) where
+      module _ {p q p′ q′ : ℕ} {b : Bool} (w : p ≡ getD t e 0) (y : q ≡ getD t (e + 1) 0) (w′ : p′ ≡ getD t k 0) (y′ : q′ ≡ getD t (k + 1) 0)
+          (s : b ≡ same (decodeAt x (p + 1) (q - 1)) (decodeAt x (p′ + 1) (q′ - 1))) where
         tested : b ≡ same (textAt x t e) (textAt x t k)
         unfolding textAt
         tested = rw (← w, ← y, ← w′, ← y′) s
@@ -97,7 +100,8 @@ module _ {x t ls : List ℕ} {head k : ℕ} where
     pub follow-done : e ≡ 0 → InChain x t ls head k false
     follow-done z = record { is = λ us h. sym (finished (c .left us h) z) }
 
-kept-if : (c : ℕ) (w u : List ℕ) (us : List (List ℕ)) (b : Bool) → eqb (chainOf u) c ≡ b → c ≡ chainOf w → among (kept c us) w ≡ among us w → among (cond b (u ∷ kept c us) (kept c us)) w ≡ (same u w || among us w)
+kept-if : (c : ℕ) (w u : List ℕ) (us : List (List ℕ)) (b : Bool) → eqb (chainOf u) c ≡ b → c ≡ chainOf w → among (kept c us) w ≡ among us w
+    → among (cond b (u ∷ kept c us) (kept c us)) w ≡ (same u w || among us w)
 unfolding among
 kept-if c w u us true e q h = rw h
 kept-if c w u us false e q h = rw (other-text u w (same u w) refl (λ z. eqb-false _ _ e (z ∙ sym q))) h
@@ -120,7 +124,8 @@ unfolding kept
 chains-begin x t ls hs k z h = record { chain = λ c l. end (z c); below = λ c l. omega (arith, z c) }
 
 -- one name more, at the node k, which goes to the chain c
-module _ {x t ls hs : List ℕ} {k c : ℕ} {us : List (List ℕ)} (s : Chains x t ls hs k us) {raw : List ℕ} (d : StringAt x t k raw) (i : k < 98352) (q : c ≡ chainOf (textAt x t k)) (l : c < 4096) (n : length ls ≡ 32784) (m : length hs ≡ 4096) where
+module _ {x t ls hs : List ℕ} {k c : ℕ} {us : List (List ℕ)} (s : Chains x t ls hs k us) {raw : List ℕ} (d : StringAt x t k raw) (i : k < 98352)
+    (q : c ≡ chainOf (textAt x t k)) (l : c < 4096) (n : length ls ≡ 32784) (m : length hs ≡ 4096) where
   head-same : (a : ℕ) → c ≡ a → getD (set hs c k) a 0 ≡ k
   head-same a z = rw (← z) (getD-set-same hs c k 0 (omega arith))
 
@@ -131,7 +136,9 @@ module _ {x t ls hs : List ℕ} {k c : ℕ} {us : List (List ℕ)} (s : Chains x
   chains-if a true e f =
       let z : c ≡ a = q ∙ eqb-true _ _ e in
       let w : getD (set ls (k / 3) (getD hs c 0)) (k / 3) 0 ≡ getD hs c 0 = getD-set-same ls (k / 3) (getD hs c 0) 0 (omega arith) in
-      rw (head-same a z, ← z) (link {us = kept c us} (record { room = i; back = rw w (omega (arith, s .below c l)); raw = raw; string = d }) (rw w (chained-set k (getD hs c 0) (s .chain c l) (s .below c l))))
+      rw (head-same a z, ← z)
+      (link {us = kept c us} (record { room = i; back = rw w (omega (arith, s .below c l)); raw = raw; string = d })
+      (rw w (chained-set k (getD hs c 0) (s .chain c l) (s .below c l))))
   chains-if a false e f = rw (head-other a (λ z. eqb-false _ _ e (sym q ∙ z))) (chained-set k (getD hs c 0) (s .chain a f) (s .below a f))
 
   below-if : (a j : ℕ) (b : Bool) → eqb c a ≡ b → a < 4096 → k + 3 ≤ j → getD (set hs c k) a 0 + 3 ≤ j
@@ -155,8 +162,15 @@ module _ {x t ls hs : List ℕ} {k : ℕ} (d : ChainAt x t ls hs k) where
     found : (us : List (List ℕ)) → Chains x t ls hs k us → among us (textAt x t k) ≡ f
     found us s = sym (g .is (kept c us) (rw o (s .chain c l)) ∙ kept-among c (textAt x t k) goes us)
 
-    gives : {b r : ℕ} → ((us : List (List ℕ)) → Chains x t ls hs k us → r ≡ least b (map (fault 6) (cond (among us (textAt x t k)) (getD t k 0 ∷ []) []))) → ChainGives x t ls hs (set ls (k / 3) (getD hs c 0)) (set hs c k) k b r
-    gives i = record { is = i; more = λ us j s e. chains-more s (d .string) (d .inside) goes l (d .links) (d .heads) j e; links = length-set ls (k / 3) (getD hs c 0) ∙ d .links; heads = length-set hs c k ∙ d .heads }
+    gives : {b r : ℕ} → ((us : List (List ℕ)) → Chains x t ls hs k us → r ≡ least b (map (fault 6) (cond (among us (textAt x t k)) (getD t k 0 ∷ []) [])))
+        → ChainGives x t ls hs (set ls (k / 3) (getD hs c 0)) (set hs c k) k b r
+    gives i =
+        record {
+          is = i;
+          more = λ us j s e. chains-more s (d .string) (d .inside) goes l (d .links) (d .heads) j e;
+          links = length-set ls (k / 3) (getD hs c 0) ∙ d .links;
+          heads = length-set hs c k ∙ d .heads;
+        }
 
     pub chain-none : (b : ℕ) → not f ≡ true → ChainGives x t ls hs (set ls (k / 3) (getD hs c 0)) (set hs c k) k b b
     unfolding least
@@ -166,6 +180,23 @@ module _ {x t ls hs : List ℕ} {k : ℕ} (d : ChainAt x t ls hs k) where
     unfolding least
     chain-found {b} {u} {v} e i j = gives (λ us s. rw (found us s, not-false f e) (j ∙ (ap (min b) i ∙ ap (λ (a : ℕ). min b (fault 6 a)) y)))
 
-pub ruleset follows = (needs, string-first, string-second, string-some, string-span, follow-begin, follow-first, follow-second, follow-some, follow-span, follow-room, follow-less, follow-found, follow-done)
+pub ruleset follows = (
+  needs,
+  string-first,
+  string-second,
+  string-some,
+  string-fits,
+  string-span,
+  follow-begin,
+  follow-first,
+  follow-second,
+  follow-some,
+  follow-fits,
+  follow-span,
+  follow-room,
+  follow-less,
+  follow-found,
+  follow-done,
+)
 
-pub ruleset links = (needs, string-first, string-second, string-some, string-span, string-low, name-node)
+pub ruleset links = (needs, string-first, string-second, string-some, string-fits, string-span, string-low, name-node, chain-none, chain-found)

@@ -189,7 +189,16 @@ turn {rule} {own} {x} {t} {n} {k} {b} {all} l h = go (l .stand) (l .ends) (l .ho
     go : {ds : List Part} → Row x t k ds → k + 3 * length ds ≡ n → least b (map (fault rule) (flatMap own ds)) ≡ all → Turn rule own x t n k b all
     go none e p = absurd (omega arith)
     go (some {d = d} {ds = ds} s r) e p =
-        record { part = d; others = ds; stands = s; then = r; ends = omega arith; holds = sym (least-++ b (map (fault rule) (own d)) (map (fault rule) (flatMap own ds))) ∙ (ap (least b) (sym (map-append (fault rule) (own d) (flatMap own ds))) ∙ p) }
+        record {
+          part = d;
+          others = ds;
+          stands = s;
+          then = r;
+          ends = omega arith;
+          holds =
+              sym (least-++ b (map (fault rule) (own d)) (map (fault rule) (flatMap own ds)))
+              ∙ (ap (least b) (sym (map-append (fault rule) (own d) (flatMap own ds))) ∙ p);
+        }
 
 finished : {rule : ℕ} {own : Part → List ℕ} {x t : List ℕ} {n k b all : ℕ} → Left rule own x t n k b all → n ≤ k → b ≡ all
 unfolding flatMap least
@@ -207,7 +216,13 @@ module _ {rule : ℕ} {own : Part → List ℕ} {x t : List ℕ} {n b₀ k b : �
   pass-part l = let u = turn (c .left (c .root .value) (c .root .stands)) l in record { part = u .part; stands = u .stands; short = c .root .short }
 
   pub pass-again : {r : ℕ} → k < n → PartGives rule own x t k b r → Pass rule own x t n b₀ (k + 3) r
-  pass-again l g = record { root = c .root; left = λ v s. let u = turn (c .left v s) l in record { left = u .others; stand = u .then; ends = u .ends; holds = rw (g .is (u .part) (u .stands)) (u .holds) } }
+  pass-again l g =
+      record {
+        root = c .root;
+        left = λ v s.
+            let u = turn (c .left v s) l in
+            record { left = u .others; stand = u .then; ends = u .ends; holds = rw (g .is (u .part) (u .stands)) (u .holds) };
+      }
 
   pub pass-done : n ≤ k → (v : Json) → Sub x t 0 v → b ≡ least b₀ (map (fault rule) (flatMap own (parts v)))
   pass-done h v s = finished (c .left v s) h

@@ -1,11 +1,13 @@
 -- Rule 5 at one node.
-use Prim.Native.Nat.{ℕ, _+_, _-_, _≤_, _<_, min}
+use Prim.Native.Nat.{ℕ, _+_, _-_, _*_, _^_, _≤_, _<_, min}
 use mathlib.Core.Path.{_≡_, refl, sym, ap, _∙_}
 use mathlib.Core.Bool.{true, false}
 use mathlib.Core.List.{List, [], _∷_, map}
 use native.Mathlib.Omega.{arith}
 use lib.ListN.{length, getD}
 use lib.Seq.{slice}
+use mir.Syntax.{w64}
+use mir.Val.{Fits}
 use borrow.Author.Needs.{needs}
 use borrow.Author.Tests.{eq-eqb, ne-eqb}
 use Rattle.utf8.specs.Laws.{clash}
@@ -21,6 +23,7 @@ use Rattle.json.specs.Laws.{words}
 use Rattle.nodes.specs.Access.{isStringValue}
 use Rattle.nodes.specs.Faults.{fault, least}
 use Rattle.nodes.specs.Laws.{StringAt, quoted-at, string-at, rawOf, kinds, place-at}
+use Rattle.nodes.specs.Walks.{string-fits}
 use Rattle.everywhere.specs.Parts.{Part, value, Stands, of-value, of-name, own5, AnyPart, PartGives}
 
 -- a part's three words
@@ -41,6 +44,9 @@ module _ {x t : List ℕ} {i : ℕ} where
 
   pub any-third : AnyPart x t i → i + 2 < length t
   any-third a = part-room (a .stands)
+
+  pub any-onward : AnyPart x t i → length t * 4 < 2 ^ 63 → Fits w64 (i + 3)
+  any-onward a h = record { fits = omega (arith, part-room (a .stands)) }
 
   pub any-inside : {p : ℕ} → AnyPart x t i → p ≡ getD t i 0 → p < length x
   any-inside a e = omega (arith, part-inside (a .stands))
@@ -110,8 +116,8 @@ module _ {x t : List ℕ} {i p : ℕ} (a : AnyPart x t i) (q : p ≡ getD t i 0)
   any-string : {d : Part} → Stands x t i d → StringPart x t i d
   any-string s = string-part s (rw (← q) h)
 
-  pub any-fits : p + 1 ≤ length x
-  any-fits = rw q (any-string (a .stands) .string .fits)
+  pub any-fits : length x * 1 < 2 ^ 63 → Fits w64 (p + 1)
+  any-fits h = string-fits (any-string (a .stands) .string) q h
 
   module _ {e : ℕ} (r : e ≡ getD t (i + 1) 0) where
     pub any-some : 1 ≤ e
@@ -133,10 +139,18 @@ module _ {x t : List ℕ} {i p : ℕ} (a : AnyPart x t i) (q : p ≡ getD t i 0)
       pub unpaired-hit : {o u b w : ℕ} → f ≡ At o → u ≡ fault 5 o → w ≡ min b u → PartGives 5 own5 x t i b w
       unfolding unpairedAt
       unpaired-hit {o} {u} {b} {w} m y z =
-          record { is = λ d s. z ∙ (ap (min b) y ∙ sym (ap (λ (l : List ℕ). least b (map (fault 5) l)) (own-here s) ∙ first-least 5 b (p + 1) _ o (unpairedAt x (p + 1) (e - 1)) (unpaired-rising (p + 1) (slice (p + 1) (e - 1) x)) (sym g ∙ m))) }
+          record {
+            is = λ d s.
+                z
+                ∙
+                (ap (min b) y
+                ∙ sym
+                (ap (λ (l : List ℕ). least b (map (fault 5) l)) (own-here s)
+                ∙ first-least 5 b (p + 1) _ o (unpairedAt x (p + 1) (e - 1)) (unpaired-rising (p + 1) (slice (p + 1) (e - 1) x)) (sym g ∙ m)));
+          }
 
       pub unpaired-miss : (b : ℕ) → f ≡ Nothing → PartGives 5 own5 x t i b b
       unfolding least
       unpaired-miss b m = record { is = λ d s. rw (own-here s, first-none _ (sym g ∙ m)) }
 
-pub ruleset rule5s = (needs, any-first, any-second, any-third, any-inside, any-some, any-span, unpaired-none, unpaired-low, unpaired-hit, unpaired-miss)
+pub ruleset rule5s = (needs, any-first, any-second, any-third, any-inside, any-fits, any-some, any-span, unpaired-none, unpaired-low, unpaired-hit, unpaired-miss)

@@ -23,8 +23,8 @@ use Rattle.nodes.specs.Laws.{quoted-at, kinds, fieldsOf, object-begin, no-field
 use Rattle.everywhere.specs.Parts.{Part, value, Stands, of-value, of-name, own6, AnyPart, PartGives, earlier, textAt, NameNode, Repeats, RepeatGives}
 use Rattle.everywhere.specs.Chains.{Chains, ChainAt, ChainGives, LongObject}
 use Rattle.everywhere.proofs.Links.{chains-begin}
-use Rattle.nodes.specs.Walks.{string-first, string-second, string-some, string-span, string-low, Walk, walk-of, walk-on, walk-first, walk-second, walk-room, walk-some, walk-span, walk-less}
-use Rattle.everywhere.proofs.Rule5.{any-first, any-third, any-inside}
+use Rattle.nodes.specs.Walks.{string-first, string-second, string-some, string-fits, string-span, string-low, Walk, walk-of, walk-on, walk-first, walk-second, walk-room, walk-onward, walk-some, walk-fits, walk-span, walk-less}
+use Rattle.everywhere.proofs.Rule5.{any-first, any-third, any-onward, any-inside}
 
 -- is a text among the names of some members, in their order?
 unfoldable named : Members → List ℕ → Bool
@@ -72,7 +72,12 @@ module _ {x t : List ℕ} {first k : ℕ} where
       go (field f s fs) e = omega (arith, f .words .start, f .words .some, f .words .inside, d .short)
 
   pub compare-begin : NameNode x t first k → Compares x t first k first
-  compare-begin d = record { node = d; walk = record { members = d .before; stand = d .stand; ends = d .ends }; left = λ ms f e. record { members = ms; stand = f; ends = e; holds = among-named ms (textAt x t k) } }
+  compare-begin d =
+      record {
+        node = d;
+        walk = record { members = d .before; stand = d .stand; ends = d .ends };
+        left = λ ms f e. record { members = ms; stand = f; ends = e; holds = among-named ms (textAt x t k) };
+      }
 
   module _ {j : ℕ} (c : Compares x t first k j) where
     module _ {p e p′ e′ : ℕ} (l : j < k) (q : p ≡ getD t j 0) (r : e ≡ getD t (j + 1) 0) (q′ : p′ ≡ getD t k 0) (r′ : e′ ≡ getD t (k + 1) 0) where
@@ -153,7 +158,10 @@ abbrev Least : List ℕ → List ℕ → ℕ → ℕ → ℕ → List (List ℕ)
 Least x t k b r us = r ≡ least b (map (fault 6) (cond (among us (textAt x t k)) (getD t k 0 ∷ []) []))
 
 -- the faults from one member on
-repeated-step : {x t : List ℕ} {first k n b₀ b r : ℕ} {Q R : List (List ℕ) → Type 0} {fields : Members} (u : MemberPast x t k n (Earlier x t first k b₀ b Q fields)) → Least x t k b r (earlier [] (u .holds .before)) → R (textAt x t k ∷ earlier [] (u .holds .before)) → Earlier x t first (getD t (k + 3 + 2) 0) b₀ r R fields (u .others)
+repeated-step :
+    {x t : List ℕ} {first k n b₀ b r : ℕ} {Q R : List (List ℕ) → Type 0} {fields : Members} (u : MemberPast x t k n (Earlier x t first k b₀ b Q fields))
+    → Least x t k b r (earlier [] (u .holds .before)) → R (textAt x t k ∷ earlier [] (u .holds .before))
+    → Earlier x t first (getD t (k + 3 + 2) 0) b₀ r R fields (u .others)
 unfolding repeated textAt
 repeated-step {x} {t} {first} {k} {n} {b₀} {b} {r} {Q} {R} {fields} u g q =
     let o = u .holds in
@@ -209,7 +217,9 @@ module _ {x t : List ℕ} {i : ℕ} where
         done (of-name q) = absurd (no-name (c .brace) q)
 
   -- past one name
-  again : {first n b₀ k b r m : ℕ} {Q R : List (List ℕ) → Type 0} → Sweeps x t i first n b₀ k b Q → k < n → m ≡ getD t (k + 3 + 2) 0 → ((ms : Members) → Fields x t first ms → first + widths ms ≡ k → Q (earlier [] ms) → Least x t k b r (earlier [] ms) × R (textAt x t k ∷ earlier [] ms)) → Sweeps x t i first n b₀ m r R
+  again : {first n b₀ k b r m : ℕ} {Q R : List (List ℕ) → Type 0} → Sweeps x t i first n b₀ k b Q → k < n → m ≡ getD t (k + 3 + 2) 0
+      → ((ms : Members) → Fields x t first ms → first + widths ms ≡ k → Q (earlier [] ms) → Least x t k b r (earlier [] ms) × R (textAt x t k ∷ earlier [] ms))
+      → Sweeps x t i first n b₀ m r R
   again {first} {n} {b₀} {k} {b} {r} {m} {Q} {R} c l q g = record { some = c .some; brace = c .brace; ends = c .ends; walk = walk-on (c .walk) l q; left = λ v s. onto (member-past (c .left v s) l) }
     where
       onto : {fields : Members} (u : MemberPast x t k n (Earlier x t first k b₀ b Q fields)) → MembersLeft x t m n (Earlier x t first m b₀ r R fields)
@@ -234,15 +244,47 @@ module _ {x t : List ℕ} {i : ℕ} where
     pub thread-name : k < n → ChainAt x t ls hs k
     thread-name l =
         let u = turn (c .sweeps) l in
-        record { texts = earlier [] (u .holds .before); chains = u .holds .also; raw = u .key .raw; string = quoted-at (u .quoted); short = c .sweeps .some .short; inside = omega (arith, c .few); links = c .links; heads = c .heads }
+        record {
+          texts = earlier [] (u .holds .before);
+          chains = u .holds .also;
+          raw = u .key .raw;
+          string = quoted-at (u .quoted);
+          short = c .sweeps .some .short;
+          inside = omega (arith, c .few);
+          links = c .links;
+          heads = c .heads;
+        }
 
     pub thread-again : {r m : ℕ} {ls′ hs′ : List ℕ} → k < n → ChainGives x t ls hs ls′ hs′ k b r → m ≡ getD t (k + 3 + 2) 0 → Threads x t ls′ hs′ i first n b₀ m r
     thread-again {m = m} l g q =
         let h : k + 3 ≤ m = omega (arith, turn (c .sweeps) l .word .next) in
         record { sweeps = again (c .sweeps) l q (λ ms f e z. (g .is _ z, g .more _ m z h)); few = c .few; links = g .links; heads = g .heads }
 
-pub ruleset names = (needs, string-first, first-first, first-low, string-second, string-some, string-span, string-low, compare-begin, compare-found, compare-done, repeat-none, repeat-found, walk-first, walk-second, walk-room, walk-some, walk-span, walk-less)
+pub ruleset names = (
+  needs,
+  string-first,
+  first-first,
+  first-low,
+  string-second,
+  string-some,
+  string-fits,
+  string-span,
+  string-low,
+  compare-begin,
+  compare-found,
+  compare-done,
+  repeat-none,
+  repeat-found,
+  walk-first,
+  walk-second,
+  walk-room,
+  walk-onward,
+  walk-some,
+  walk-fits,
+  walk-span,
+  walk-less,
+)
 
-pub ruleset sweeps = (needs, any-first, any-third, any-inside, repeated-none, sweep-begin, sweep-name, sweep-long, sweep-seen, sweep-again, sweep-done, walk-less)
+pub ruleset sweeps = (needs, any-first, any-third, any-onward, any-inside, repeated-none, sweep-begin, sweep-name, sweep-long, sweep-seen, sweep-again, sweep-done, walk-onward, walk-less)
 
 pub ruleset threads = (needs, any-third, thread-begin, thread-name, thread-again, sweep-done, walk-less)

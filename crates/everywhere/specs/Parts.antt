@@ -75,4 +75,5 @@ pub record Repeats (x t : List ℕ) (first k : ℕ) (r : Bool) : Type 0 where
 
 -- r is the least of b and of the fault of the name at the node k, if it repeats one of those before it
 pub record RepeatGives (x t : List ℕ) (first k b r : ℕ) : Type 0 where
-  pub is : (ms : Members) → Fields x t first ms → first + widths ms ≡ k → r ≡ least b (map (fault 6) (cond (among (earlier [] ms) (textAt x t k)) (getD t k 0 ∷ []) []))
+  pub is : (ms : Members) → Fields x t first ms → first + widths ms ≡ k
+      → r ≡ least b (map (fault 6) (cond (among (earlier [] ms) (textAt x t k)) (getD t k 0 ∷ []) []))

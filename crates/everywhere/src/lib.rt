@@ -190,7 +190,8 @@ fn chain_at(
     best: u32,
 ) -> u32
     requires { ⌜ ChainAt (now text) (now table) (now links) (now heads) k ⌝ }
-    ensures { λ r. ⌜ ChainGives (now (text .entry)) (now (table .entry)) (now (links .entry)) (now (heads .entry)) (now (links .exit)) (now (heads .exit)) k best r ⌝ }
+    ensures { λ r. ⌜ ChainGives (now (text .entry)) (now (table .entry)) (now (links .entry)) (now (heads .entry))
+        (now (links .exit)) (now (heads .exit)) k best r ⌝ }
 {
     let from = nodes::start(table, k);
     let to = nodes::end(table, k);
@@ -222,7 +223,8 @@ fn chained_in(text: &[u8], table: &[u32], links: &mut [u32; 32784], i: usize, be
     least
 }
 
-// Rule 6 at a node, if an object stands there: among its names. The first 16 are compared with all before them; if there are more, all names go into chains, if there is a link for each node.
+// Rule 6 at a node, if an object stands there: among its names. The first 16 are compared with all before them;
+// if there are more, all names go into chains, if there is a link for each node.
 fn repeated_in(text: &[u8], table: &[u32], links: &mut [u32; 32784], i: usize, best: u32) -> u32
     requires { ⌜ (AnyPart (now text) (now table) i) × (length (now links) ≡ 32784) ⌝ }
     ensures { λ r. ⌜ (PartGives 6 own6 (now (text .entry)) (now (table .entry)) i best r) × (length (now (links .exit)) ≡ 32784) ⌝ }

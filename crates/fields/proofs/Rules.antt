@@ -81,4 +81,23 @@ module _ {x t : List ℕ} {i : ℕ} (w : List ℕ) where
   pub is-text : {p f : ℕ} {r : Bool} → StringNode x t i → p ≡ getD t i 0 + 1 → f ≡ getD t (i + 1) 0 - 1 → r ≡ same w (decodeAt x p f) → Gives (λ v. same w (textOf v)) x t i r
   is-text d q u s = string-text d (same w) q u s
 
-pub ruleset fields = (needs, at-node, string-node, string-first, string-second, string-span, count-nothing, count-at, word-nothing, word-at, object-nothing, object-other, object-string, geometry-nothing, geometry-other, geometry-string, is-other, is-text)
+pub ruleset fields = (
+  needs,
+  at-node,
+  string-node,
+  string-first,
+  string-second,
+  string-span,
+  count-nothing,
+  count-at,
+  word-nothing,
+  word-at,
+  object-nothing,
+  object-other,
+  object-string,
+  geometry-nothing,
+  geometry-other,
+  geometry-string,
+  is-other,
+  is-text,
+)

@@ -1,5 +1,6 @@
 -- What the rules look up in objects.
 use Prim.Native.Nat.{ℕ}
+use Prim.Native.String.{String}
 use mathlib.Core.List.{List, []}
 use mathlib.Core.Option.{Option, none, some}
 use lib.ListN.{length}
@@ -22,6 +23,17 @@ unfoldable pub countIn : Option Json → ℕ
 unfolding elements
 countIn none = 0
 countIn (some v) = length (elements v)
+
+-- the elements of a value that was sought
+unfoldable pub elementsIn : Option Json → List Json
+unfolding elements
+elementsIn none = []
+elementsIn (some v) = elements v
+
+-- what an object lists under a name
+unfoldable pub listedIn : String → Json → List Json
+unfolding elementsIn find
+listedIn name o = elementsIn (find name o)
 
 -- the members of a value that was sought
 unfoldable pub membersIn : Option Json → List Member

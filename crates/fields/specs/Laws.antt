@@ -70,7 +70,8 @@ module _ {x t : List ℕ} {i : ℕ} (d : StringNode x t i) where
   string-span q r = rw (q, r) (at-string .span)
 
   -- what is told of its text
-  pub string-text : {A : Type 0} {p e : ℕ} {r : A} (f : List ℕ → A) → p ≡ getD t i 0 + 1 → e ≡ getD t (i + 1) 0 - 1 → r ≡ f (decodeAt x p e) → Gives (λ v. f (textOf v)) x t i r
+  pub string-text : {A : Type 0} {p e : ℕ} {r : A} (f : List ℕ → A) → p ≡ getD t i 0 + 1 → e ≡ getD t (i + 1) 0 - 1 → r ≡ f (decodeAt x p e)
+      → Gives (λ v. f (textOf v)) x t i r
   string-text f q r s = record { is = λ v u. rw (text-at u (d .is v u), ← q, ← r) s }
 
 -- a value that is no string has no text
@@ -83,5 +84,6 @@ no-text (Rattle.json.specs.Tree.str p e raw) h = clash cc
 no-text (Rattle.json.specs.Tree.arr p e vs) h = refl
 no-text (Rattle.json.specs.Tree.obj p e ms) h = refl
 
-pub other-text : {A : Type 0} {x t : List ℕ} {i : ℕ} {b : Bool} {r : A} (f : List ℕ → A) → Gives isStringValue x t i b → not b ≡ true → r ≡ f [] → Gives (λ v. f (textOf v)) x t i r
+pub other-text : {A : Type 0} {x t : List ℕ} {i : ℕ} {b : Bool} {r : A} (f : List ℕ → A) → Gives isStringValue x t i b → not b ≡ true → r ≡ f []
+    → Gives (λ v. f (textOf v)) x t i r
 other-text {b = b} f g h q = record { is = λ v s. q ∙ ap f (sym (no-text v (sym (g .is v s) ∙ not-true b h))) }

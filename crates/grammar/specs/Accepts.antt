@@ -64,7 +64,9 @@ module _ {most : ℕ} {x : List ℕ} {t : Json} where
       here : At x n b
       here = record { inside = low; byte = cc (drop-cons x n 0 low) }
 
-      by : (y : Step) → step most x m ks n b ≡ y → ((m′ : Mode) (ks′ : List Frame) → drop (n + 1) x ≡ bs → n + 1 ≤ length x → run most x m′ ks′ (n + 1) bs ≡ reads t → Acc most x t m′ ks′ (n + 1)) → Acc most x t m ks n
+      by : (y : Step) → step most x m ks n b ≡ y
+          → ((m′ : Mode) (ks′ : List Frame) → drop (n + 1) x ≡ bs → n + 1 ≤ length x → run most x m′ ks′ (n + 1) bs ≡ reads t → Acc most x t m′ ks′ (n + 1))
+          → Acc most x t m ks n
       by (go m′ ks′) e ih = pass here e (ih m′ ks′ (rw (add-one n) (cc (drop-cons x n 0 low))) (omega (arith, low)) (rw e at h))
       by dead e ih = let p : bad n ≡ reads t = rw e at h in clash cc
       by deep e ih = let p : tooDeep n ≡ reads t = rw e at h in clash cc

@@ -176,7 +176,10 @@ module _ (l l′ : ℕ) (u : l ≤ l′) (x : List ℕ) where
       (fits-cond (eqb b 34) (allowed (omega arith) tt)
       (fits-cond (eqb b 45) (allowed (omega arith) tt)
       (fits-cond (eqb b 48) (allowed (omega arith) tt)
-      (fits-cond (isDigit b) (allowed (omega arith) tt) (fits-cond (eqb b 116) (allowed (omega arith) tt) (fits-cond (eqb b 102) (allowed (omega arith) tt) (fits-cond (eqb b 110) (allowed (omega arith) tt) on-dead))))))))
+      (fits-cond (isDigit b) (allowed (omega arith) tt)
+      (fits-cond (eqb b 116) (allowed (omega arith) tt)
+      (fits-cond (eqb b 102) (allowed (omega arith) tt)
+      (fits-cond (eqb b 110) (allowed (omega arith) tt) on-dead))))))))
 
   -- after a value in what is open
   fits-next : (v : Json) (ks : List Frame) (n b : ℕ) → length ks ≤ l → Fits l l′ (nextStep l′ x v ks n b)
@@ -214,12 +217,17 @@ module _ (l l′ : ℕ) (u : l ≤ l′) (x : List ℕ) where
   pub fits : (m : Mode) (ks : List Frame) (n b : ℕ) → opening m + length ks ≤ l → Fits l l′ (step l′ x m ks n b)
   unfolding step nameStep
   fits want ks n b h = fits-cond (isBlank b) (allowed (omega arith) tt) (fits-want ks n b (omega arith))
-  fits (first p) ks n b h = fits-cond (isBlank b) (allowed (omega arith) tt) (fits-cond (eqb b 93) (allowed (omega arith) tt) (fits-want (array p noItems ∷ ks) n b (omega arith)))
-  fits (name0 p) ks n b h = fits-cond (isBlank b) (allowed (omega arith) tt) (fits-cond (eqb b 125) (allowed (omega arith) tt) (fits-cond (eqb b 34) (allowed (omega arith) tt) on-dead))
+  fits (first p) ks n b h =
+      fits-cond (isBlank b) (allowed (omega arith) tt) (fits-cond (eqb b 93) (allowed (omega arith) tt) (fits-want (array p noItems ∷ ks) n b (omega arith)))
+  fits (name0 p) ks n b h =
+      fits-cond (isBlank b) (allowed (omega arith) tt)
+      (fits-cond (eqb b 125) (allowed (omega arith) tt) (fits-cond (eqb b 34) (allowed (omega arith) tt) on-dead))
   fits (name1 p ms) ks n b h = fits-cond (isBlank b) (allowed (omega arith) tt) (fits-cond (eqb b 34) (allowed (omega arith) tt) on-dead)
   fits (colon p ms k) ks n b h = fits-cond (isBlank b) (allowed (omega arith) tt) (fits-cond (eqb b 58) (allowed (omega arith) tt) on-dead)
   fits (got v) ks n b h = fits-got v ks n b (omega arith)
-  fits (chars k p) ks n b h = fits-cond (eqb b 34) (fits-closed k p (n + 1) ks h) (fits-cond (eqb b 92) (allowed (omega arith) tt) (fits-cond (ltb b 32) on-dead (allowed (omega arith) tt)))
+  fits (chars k p) ks n b h =
+      fits-cond (eqb b 34) (fits-closed k p (n + 1) ks h)
+      (fits-cond (eqb b 92) (allowed (omega arith) tt) (fits-cond (ltb b 32) on-dead (allowed (omega arith) tt)))
   fits (esc k p) ks n b h = fits-cond (isEscape b) (allowed (omega arith) tt) (fits-cond (eqb b 117) (allowed (omega arith) tt) on-dead)
   fits (hex k p j) ks n b h = fits-cond (isHex b) (fits-hexed k p j ks h) on-dead
   fits (neg p) ks n b h = fits-cond (eqb b 48) (allowed (omega arith) tt) (fits-cond (isDigit b) (allowed (omega arith) tt) on-dead)

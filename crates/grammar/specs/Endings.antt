@@ -88,7 +88,8 @@ pub record Ends (most : ℕ) (x : List ℕ) (m : Mode) (ks : List Frame) (n : �
   pub runs : run most x m ks n u ≡ reads tree
 
 -- one byte more in front
-by-byte : {most : ℕ} {x : List ℕ} {m m′ : Mode} {ks ks′ : List Frame} {n b : ℕ} {u : List ℕ} → step most x m ks n b ≡ go m′ ks′ → Ends most x m′ ks′ (n + 1) u → Ends most x m ks n (b ∷ u)
+by-byte : {most : ℕ} {x : List ℕ} {m m′ : Mode} {ks ks′ : List Frame} {n b : ℕ} {u : List ℕ} → step most x m ks n b ≡ go m′ ks′ → Ends most x m′ ks′ (n + 1) u
+    → Ends most x m ks n (b ∷ u)
 unfolding run
 by-byte e h = record { tree = h .tree; runs = rw e (h .runs) }
 
@@ -104,7 +105,8 @@ module _ (most : ℕ) (x : List ℕ) where
   ends-colon : (p : ℕ) (ms : Members) (k : Name) (ks : List Frame) (n : ℕ) → Ends most x (colon p ms k) ks n (named ks)
   ends-colon p ms k ks n =
       by-byte (st.colon-yes most x n 58 refl p ms k ks)
-      (by-byte (st.want-quote most x (n + 1) 34 refl (object p ms k ∷ ks)) (by-byte (st.chars-quote most x (n + 1 + 1) 34 refl value (n + 1) (object p ms k ∷ ks)) (ends-got _ (object p ms k ∷ ks) _)))
+      (by-byte (st.want-quote most x (n + 1) 34 refl (object p ms k ∷ ks))
+      (by-byte (st.chars-quote most x (n + 1 + 1) 34 refl value (n + 1) (object p ms k ∷ ks)) (ends-got _ (object p ms k ∷ ks) _)))
 
   -- in a string
   ends-chars : (k : Role) (p : ℕ) (ks : List Frame) (n : ℕ) → Ends most x (chars k p) ks n (quoted k ks)

@@ -25,4 +25,5 @@ mutual
   -- members stand from a up to b, one after the other, the name of each before its value
   pub data Rows : Members → ℕ → ℕ → Type 0 where
     last : {a b : ℕ} → a ≤ b → Rows tree.empty a b
-    field : {a p e b : ℕ} {k : Name} {v : Json} {ms : Members} → a ≤ k .place → k .place + (2 + length (k .raw)) ≤ k .end → k .end < p → Spans v p e → Rows ms e b → Rows (member k v ms) a b
+    field : {a p e b : ℕ} {k : Name} {v : Json} {ms : Members} → a ≤ k .place → k .place + (2 + length (k .raw)) ≤ k .end → k .end < p → Spans v p e
+        → Rows ms e b → Rows (member k v ms) a b

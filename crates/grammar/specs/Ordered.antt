@@ -114,13 +114,19 @@ module _ {x : List ℕ} where
       let h₃ = chars-lt c in
       let h₄ = ws-le w₁ in
       let h₅ = ws-le w₂ in
-      let (b, t, h₆, h₇) = members-order l ih es in
-      (b, o.Rows.field {p = p} {k = nameAt x q f} h₁ (omega (arith, slice-short (q + 1) (f - 1) x)) (omega arith) s (rows-from (omega arith) t), omega arith, h₇)
+      let (b, t, h₆, h₇) = members-order l ih es in (
+        b,
+        o.Rows.field {p = p} {k = nameAt x q f} h₁ (omega (arith, slice-short (q + 1) (f - 1) x)) (omega arith) s (rows-from (omega arith) t),
+        omega arith,
+        h₇,
+      )
 
   -- a value, by what holds of those with one level less
   one-order : {l : ℕ} → Below (Values x) l → {p e : ℕ} {v : Json} → g.Value x l p e v → Spans v p e × (p < e)
   unfolding ascii
-  one-order ih {p} {e} (g.Value.string q c) = let h = chars-lt c in (o.Spans.str {p = p} {e = e} {raw = slice (p + 1) (e - 1) x} (omega (arith, slice-short (p + 1) (e - 1) x)), omega arith)
+  one-order ih {p} {e} (g.Value.string q c) =
+      let h = chars-lt c in
+      (o.Spans.str {p = p} {e = e} {raw = slice (p + 1) (e - 1) x} (omega (arith, slice-short (p + 1) (e - 1) x)), omega arith)
   one-order ih (g.Value.number i) = let h = number-lt i in (o.Spans.num h, h)
   one-order ih {p} {e} (g.Value.true′ w) = let h : p < e = omega (arith, word-le w) in (o.Spans.bool h, h)
   one-order ih {p} {e} (g.Value.false′ w) = let h : p < e = omega (arith, word-le w) in (o.Spans.bool h, h)

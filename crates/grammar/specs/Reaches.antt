@@ -38,7 +38,12 @@ same-to : (x u : List ℕ) (n : ℕ) → n ≤ length x → SameTo x (take n x +
 same-to x u n h =
     let t = length-take-le n x h in
     record {
-      bytes = λ i b l p. record { inside = omega (arith, length-append (take n x) u, t); byte = List·getD-append (take n x) u 0 i (omega (arith, t)) ∙ getD-take n x i 0 l ∙ p .byte };
+      bytes =
+          λ i b l p.
+          record {
+            inside = omega (arith, length-append (take n x) u, t);
+            byte = List·getD-append (take n x) u 0 i (omega (arith, t)) ∙ getD-take n x i 0 l ∙ p .byte;
+          };
       cut = λ i l. sym (take-append-le i (take n x) u (omega (arith, t)) ∙ take-take i n x l);
     }
 
@@ -49,7 +54,8 @@ same-to-self x n = record { bytes = λ i b l p. p; cut = λ i l. refl }
 -- a text that is read goes the same way
 along : {l l′ : ℕ} {x y : List ℕ} {t : Json} {m : Mode} {ks : List Frame} {n : ℕ} → Reach l x m ks n → SameTo x y n → Acc l′ y t want [] 0 → Acc l′ y t m ks n
 along start h a = a
-along {l} {l′} {x} {y} {t} (byte {m = m} {m′ = m′} {ks = ks} {ks′ = ks′} {n = n} {b = b} r p e) h a = by refl (rw e at (alike l l′ x y n b (h .cut n (omega arith)) m ks)) (along r (less h) a)
+along {l} {l′} {x} {y} {t} (byte {m = m} {m′ = m′} {ks = ks} {ks′ = ks′} {n = n} {b = b} r p e) h a =
+    by refl (rw e at (alike l l′ x y n b (h .cut n (omega arith)) m ks)) (along r (less h) a)
   where
     q : At y n b
     q = h .bytes n b (omega arith) p
@@ -61,7 +67,8 @@ along {l} {l′} {x} {y} {t} (byte {m = m} {m′ = m′} {ks = ks} {ks′ = ks�
 -- and so does any text that agrees so far, with no fewer levels
 moved : {l l′ : ℕ} {x y : List ℕ} {m : Mode} {ks : List Frame} {n : ℕ} → Reach l x m ks n → l ≤ l′ → SameTo x y n → Reach l′ y m ks n
 moved start u h = start
-moved {l} {l′} {x} {y} (byte {m = m} {m′ = m′} {ks = ks} {ks′ = ks′} {n = n} {b = b} r p e) u h = by refl (rw e at (alike l l′ x y n b (h .cut n (omega arith)) m ks)) (moved r u (less h))
+moved {l} {l′} {x} {y} (byte {m = m} {m′ = m′} {ks = ks} {ks′ = ks′} {n = n} {b = b} r p e) u h =
+    by refl (rw e at (alike l l′ x y n b (h .cut n (omega arith)) m ks)) (moved r u (less h))
   where
     by : {s : Step} → step l′ y m ks n b ≡ s → Like l l′ (go m′ ks′) s → Reach l′ y m ks n → Reach l′ y m′ ks′ (n + 1)
     by z same r′ = byte r′ (h .bytes n b (omega arith) p) z
@@ -83,8 +90,13 @@ begins {l} {l′} {x} {m} {ks} {n} r f u =
     let h = inside r in
     let t = length-take-le n x h in
     let y = take n x ++ rest m ks in
-    let e = endable l′ y m ks n (f .spelt) in
-    (rest m ks, e .tree, parsed (back (moved r u (same-to x (rest m ks) n h)) (from-run (rest m ks) m ks n (drop-at (take n x) (rest m ks) n t) (omega (arith, length-append (take n x) (rest m ks), t)) (e .runs))))
+    let e = endable l′ y m ks n (f .spelt) in (
+      rest m ks,
+      e .tree,
+      parsed
+          (back (moved r u (same-to x (rest m ks) n h))
+          (from-run (rest m ks) m ks n (drop-at (take n x) (rest m ks) n t) (omega (arith, length-append (take n x) (rest m ks), t)) (e .runs))),
+    )
 
 -- a step that is alike to one that goes on
 goes-on : {l l′ : ℕ} {s : Step} {m : Mode} {ks : List Frame} → Like l l′ s (go m ks) → (s ≡ dead → ⊥) × (s ≡ deep → l < l′)
@@ -92,14 +104,16 @@ goes-on same = ((λ e. clash cc), (λ e. clash cc))
 goes-on (left o) = ((λ e. clash cc), (λ e. o))
 
 -- if one byte more begins a text with at most l′ levels, it is not dead, and opens a level too many only where l is less
-onward : {l l′ : ℕ} {x : List ℕ} {m : Mode} {ks : List Frame} {n b : ℕ} → Reach l x m ks n → At x n b → Begins l′ (take (n + 1) x) → (step l x m ks n b ≡ dead → ⊥) × (step l x m ks n b ≡ deep → l < l′)
+onward : {l l′ : ℕ} {x : List ℕ} {m : Mode} {ks : List Frame} {n b : ℕ} → Reach l x m ks n → At x n b → Begins l′ (take (n + 1) x)
+    → (step l x m ks n b ≡ dead → ⊥) × (step l x m ks n b ≡ deep → l < l′)
 onward {l} {l′} {x} {m} {ks} {n} {b} r p (u, v, i) =
     let h = same-to x u (n + 1) (omega (arith, p .inside)) in
     let a = passed (h .bytes n b (omega arith) p) (along r (less h) (derived i)) in
     goes-on (rw (a .goes) at (alike l l′ x (take (n + 1) x ++ u) n b (h .cut n (omega arith)) m ks))
 
 -- where a byte opens a level too many, it begins a text with one level more
-deeper-begins : {l : ℕ} {x : List ℕ} {m : Mode} {ks : List Frame} {n b : ℕ} → Reach l x m ks n → Allowed l m ks → At x n b → step l x m ks n b ≡ deep → Begins (l + 1) (take (n + 1) x)
+deeper-begins : {l : ℕ} {x : List ℕ} {m : Mode} {ks : List Frame} {n b : ℕ} → Reach l x m ks n → Allowed l m ks → At x n b → step l x m ks n b ≡ deep
+    → Begins (l + 1) (take (n + 1) x)
 deeper-begins {l} {x} {m} {ks} {n} {b} r f p e = by refl (rw e at (alike l (l + 1) x x n b refl m ks)) (fits l (l + 1) (omega arith) x m ks n b (f .levels))
   where
     on : {m′ : Mode} {ks′ : List Frame} → step (l + 1) x m ks n b ≡ go m′ ks′ → Fits l (l + 1) (go m′ ks′) → Begins (l + 1) (take (n + 1) x)
@@ -142,14 +156,16 @@ at-end (exps p) h = whole
 at-end (lit p o ws) h = h
 
 -- the bytes bs from n on
-halted-from : {l : ℕ} {x : List ℕ} (bs : List ℕ) (m : Mode) (ks : List Frame) (n : ℕ) → drop n x ≡ bs → Reach l x m ks n → Allowed l m ks → Halted l x (run l x m ks n bs)
+halted-from : {l : ℕ} {x : List ℕ} (bs : List ℕ) (m : Mode) (ks : List Frame) (n : ℕ) → drop n x ≡ bs → Reach l x m ks n → Allowed l m ks
+    → Halted l x (run l x m ks n bs)
 unfolding run
 halted-from {l} {x} [] m ks n q r f = by ks (ended r f (omega (arith, length-drop n x, ap length q, inside r)))
   where
     by : (ks : List Frame) → Halted l x (bad n) → Halted l x (finish l x m ks n)
     by [] h = at-end m h
     by (k ∷ ks) h = h
-halted-from {l} {x} (b ∷ bs) m ks n q r f = by (step l x m ks n b) refl (fits l l (omega arith) x m ks n b (f .levels)) (λ m′ ks′. halted-from bs m′ ks′ (n + 1))
+halted-from {l} {x} (b ∷ bs) m ks n q r f =
+    by (step l x m ks n b) refl (fits l l (omega arith) x m ks n b (f .levels)) (λ m′ ks′. halted-from bs m′ ks′ (n + 1))
   where
     low : n < length x
     low = omega (arith, length-drop n x, ap length q)
@@ -158,7 +174,8 @@ halted-from {l} {x} (b ∷ bs) m ks n q r f = by (step l x m ks n b) refl (fits 
     here = record { inside = low; byte = cc (drop-cons x n 0 low) }
 
     by : (s : Step) → step l x m ks n b ≡ s → Fits l l (step l x m ks n b)
-        → ((m′ : Mode) (ks′ : List Frame) → drop (n + 1) x ≡ bs → Reach l x m′ ks′ (n + 1) → Allowed l m′ ks′ → Halted l x (run l x m′ ks′ (n + 1) bs)) → Halted l x (run l x m ks n (b ∷ bs))
+        → ((m′ : Mode) (ks′ : List Frame) → drop (n + 1) x ≡ bs → Reach l x m′ ks′ (n + 1) → Allowed l m′ ks′ → Halted l x (run l x m′ ks′ (n + 1) bs))
+        → Halted l x (run l x m ks n (b ∷ bs))
     by (go m′ ks′) e d ih = rw e (ih m′ ks′ (rw (add-one n) (cc (drop-cons x n 0 low))) (byte r here e) (allowed (rw e at d)))
       where
         allowed : Fits l l (go m′ ks′) → Allowed l m′ ks′
@@ -181,7 +198,8 @@ begun {l} {x} {v} d = ([], v, rw (take-length, append-nil) d)
 -- fewer bytes begin a text too, so that there is one such place
 pub shorter : {l : ℕ} (x : List ℕ) (j k : ℕ) → j ≤ k → Begins l (take k x) → Begins l (take j x)
 shorter x j k h (u, v, d) =
-    let e : take j x ++ (drop j (take k x) ++ u) ≡ take k x ++ u = sym (append-assoc (take j x) (drop j (take k x)) u) ∙ rw (sym (take-take j k x h), take-append-drop j (take k x)) in
+    let e : take j x ++ (drop j (take k x) ++ u) ≡ take k x ++ u =
+    sym (append-assoc (take j x) (drop j (take k x)) u) ∙ rw (sym (take-take j k x h), take-append-drop j (take k x)) in
     (drop j (take k x) ++ u, v, rw e d)
 
 -- and the longest beginning is one

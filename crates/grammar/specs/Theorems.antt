@@ -46,7 +46,8 @@ stops x n (inl e) = reaches.bad-stops 32 x n (rw e at (reaches.halted 32 x))
 stops x n (inr e) = reaches.deep-stops 32 x n (rw e at (reaches.halted 32 x))
 
 -- and it stops there exactly if besides the text is no text of the grammar with at most 32 levels
-pub stops-exactly : (x : List ℕ) (n : ℕ) → Stopped x n ↔ (((v : Json) → Text 32 x v → ⊥) × ((n ≤ length x) × Begins 32 (take n x) × (n < length x → Begins 32 (take (n + 1) x) → ⊥)))
+pub stops-exactly : (x : List ℕ) (n : ℕ)
+    → Stopped x n ↔ (((v : Json) → Text 32 x v → ⊥) × ((n ≤ length x) × Begins 32 (take n x) × (n < length x → Begins 32 (take (n + 1) x) → ⊥)))
 stops-exactly x n = ((λ s. ((λ v d. no s (read-text x v .1 d)), stops x n s)), (λ (f, s). by (read x) refl f s))
   where
     no : {v : Json} → Stopped x n → read x ≡ reads v → ⊥

@@ -54,7 +54,8 @@ module _ (g : List ℕ) (row column : ℕ) (t : Bool) (q : t ≡ holds g row col
     put-fits = record { fits = rw e (added-fits (getD g (row * 128 + column / 8) 0) (column % 8) (f .fits) (omega arith) unset) }
 
     module _ (c : column < 1024) (r : row * 128 + 128 ≤ length g) where
-      has-if : (d : Bool) (a b : ℕ) → eqb (a * 128 + b / 8) (row * 128 + column / 8) ≡ d → b < 1024 → holds (set g (row * 128 + column / 8) (getD g (row * 128 + column / 8) 0 + p)) a b ≡ ((eqb a row && eqb b column) || holds g a b)
+      has-if : (d : Bool) (a b : ℕ) → eqb (a * 128 + b / 8) (row * 128 + column / 8) ≡ d → b < 1024
+          → holds (set g (row * 128 + column / 8) (getD g (row * 128 + column / 8) 0 + p)) a b ≡ ((eqb a row && eqb b column) || holds g a b)
       unfolding holds
       has-if true a b d l =
           let z : a * 128 + b / 8 ≡ row * 128 + column / 8 = eqb-true _ _ d in
@@ -62,7 +63,11 @@ module _ (g : List ℕ) (row column : ℕ) (t : Bool) (q : t ≡ holds g row col
           let t : b / 8 ≡ column / 8 = omega arith in
           rw (z, getD-set-same g (row * 128 + column / 8) (getD g (row * 128 + column / 8) 0 + p) 0 (omega arith), eq-eqb a row s, column-if (eqb (b % 8) (column % 8)) b column t refl, e)
           (added-bit (getD g (row * 128 + column / 8) 0) (column % 8) (f .fits) (omega arith) unset (b % 8) (omega arith))
-      has-if false a b d l = rw (getD-set-other g (row * 128 + column / 8) (a * 128 + b / 8) (getD g (row * 128 + column / 8) 0 + p) 0 (eqb-false _ _ d), apart-if (eqb a row) a b row column (eqb-false _ _ d) refl)
+      has-if false a b d l =
+          rw (
+            getD-set-other g (row * 128 + column / 8) (a * 128 + b / 8) (getD g (row * 128 + column / 8) 0 + p) 0 (eqb-false _ _ d),
+            apart-if (eqb a row) a b row column (eqb-false _ _ d) refl,
+          )
 
       pub puts-set : Puts g (set g (row * 128 + column / 8) (getD g (row * 128 + column / 8) 0 + p)) row column
       unfolding withPair withBit

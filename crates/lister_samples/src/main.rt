@@ -63,7 +63,9 @@ fn minimal() {
 // One CityFurniture with a MultiPoint over one vertex.
 fn kiosk() {
     show(
-        b"{\"type\":\"CityJSON\",\"version\":\"2.0\",\"transform\":{\"scale\":[1.0,1.0,1.0],\"translate\":[0.0,0.0,0.0]},\"CityObjects\":{\"kiosk\":{\"type\":\"CityFurniture\",\"geometry\":[{\"type\":\"MultiPoint\",\"lod\":\"1\",\"boundaries\":[0]}]}},\"vertices\":[[7,-1,256]]}",
+        b"{\"type\":\"CityJSON\",\"version\":\"2.0\",\"transform\":{\"scale\":[1.0,1.0,1.0],\"translate\":[0.0,0.0,0.0]},\
+          \"CityObjects\":{\"kiosk\":{\"type\":\"CityFurniture\",\"geometry\":[{\"type\":\"MultiPoint\",\"lod\":\"1\",\"boundaries\":[0]}]}},\
+          \"vertices\":[[7,-1,256]]}",
     );
 }
 

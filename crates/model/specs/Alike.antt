@@ -190,7 +190,8 @@ unfolding Agree
 list-r s read r j k a = map-both (Agree s) read read r (elements j) (elements k) a
 
 -- a member that both have or both lack
-get-r : {A : Type 0} (s : Shape) (read : Json → A) → Respects s read → (n : String) (j k : Json) → Perhaps (Agree s) (find n j) (find n k) → read (get n j) ≡ read (get n k)
+get-r : {A : Type 0} (s : Shape) (read : Json → A) → Respects s read → (n : String) (j k : Json) → Perhaps (Agree s) (find n j) (find n k)
+    → read (get n j) ≡ read (get n k)
 unfolding get orNull
 get-r s read r n j k p = go (find n j) (find n k) p
   where
@@ -222,8 +223,10 @@ unfolding geometryShape geometryOf Agree
 geometry-r j k a =
     let p = get-r whole textOf text-r "type" j k (a .0) in
     let l = get-r whole textOf text-r "lod" j k (a .1 .0) in
-    let b : (d : ℕ) → nestOf indexOf d (get "boundaries" j) ≡ nestOf indexOf d (get "boundaries" k) = λ d. get-r whole (nestOf indexOf d) (nest-r indexOf index-r d) "boundaries" j k (a .1 .1 .0) in
-    let s : (c : ℕ) → Option·map (semanticsOf c) (find "semantics" j) ≡ Option·map (semanticsOf c) (find "semantics" k) = λ c. find-r semanticsShape (semanticsOf c) (semantics-r c) (find "semantics" j) (find "semantics" k) (a .1 .1 .1 .0) in
+    let b : (d : ℕ) → nestOf indexOf d (get "boundaries" j) ≡ nestOf indexOf d (get "boundaries" k) =
+    λ d. get-r whole (nestOf indexOf d) (nest-r indexOf index-r d) "boundaries" j k (a .1 .1 .0) in
+    let s : (c : ℕ) → Option·map (semanticsOf c) (find "semantics" j) ≡ Option·map (semanticsOf c) (find "semantics" k) =
+    λ c. find-r semanticsShape (semanticsOf c) (semantics-r c) (find "semantics" j) (find "semantics" k) (a .1 .1 .1 .0) in
     λ i. let c = codeOf geometryWords (p i) in record { code = c; lod = lodOf (l i); boundary = b (depth c) i; semantics = s c i }
 
 object-r : (m n : Member) → (nameOf m ≡ nameOf n) × Agree objectShape (m .1) (n .1) → objectOf m ≡ objectOf n
@@ -256,5 +259,6 @@ alike-same-model j k a =
     let s = get-r transformShape (λ x. threeOf decimalOf (get "scale" x)) scale-r "transform" j k t in
     let r = get-r transformShape (λ x. threeOf decimalOf (get "translate" x)) translate-r "transform" j k t in
     let o = get-r (entries objectShape) (λ x. map objectOf (members x)) objects-r "CityObjects" j k (a .1 .1 .1 .0) in
-    let v = get-r whole (λ x. map (threeOf integerOf) (elements x)) (map-r (threeOf integerOf) (three-r integerOf integer-r)) "vertices" j k (a .1 .1 .1 .1 .0) in
+    let v =
+    get-r whole (λ x. map (threeOf integerOf) (elements x)) (map-r (threeOf integerOf) (three-r integerOf integer-r)) "vertices" j k (a .1 .1 .1 .1 .0) in
     λ i. record { scale = s i; translate = r i; vertices = v i; objects = o i }

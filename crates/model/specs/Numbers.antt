@@ -64,6 +64,9 @@ number-model-inj t u gt gu e =
     let v : t .vertices ≡ u .vertices = ap (λ k. k .vertices) e in
     let d : idsOf (t .objects) ≡ idsOf (u .objects) = sym (ids-kept _ (t .objects)) ∙ ap (λ k. idsOf (k .objects)) e ∙ ids-kept _ (u .objects) in
     let good : All (GoodObject (length (t .vertices)) (idsOf (t .objects))) (u .objects) = rw (v, d) (gu .objects) in
-    let same : map (numberObject (idsOf (t .objects))) (t .objects) ≡ map (numberObject (idsOf (t .objects))) (u .objects) = ap (λ k. k .objects) e ∙ ap (λ k. map (numberObject k) (u .objects)) (sym d) in
-    let o = map-inj _ (numberObject (idsOf (t .objects))) (object-inj (length (t .vertices)) (idsOf (t .objects))) (t .objects) (u .objects) (gt .objects) good same in
+    let same : map (numberObject (idsOf (t .objects))) (t .objects) ≡ map (numberObject (idsOf (t .objects))) (u .objects) =
+    ap (λ k. k .objects) e ∙ ap (λ k. map (numberObject k) (u .objects)) (sym d) in
+    let o =
+    map-inj _ (numberObject (idsOf (t .objects))) (object-inj (length (t .vertices)) (idsOf (t .objects)))
+    (t .objects) (u .objects) (gt .objects) good same in
     λ i. record { scale = e i .scale; translate = e i .translate; vertices = v i; objects = o i }

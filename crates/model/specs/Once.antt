@@ -74,7 +74,8 @@ value-unique (some n) (some k) ga gb x y e = let r = le-unique 4 n k (omega arit
 -- values over one boundary have one shape, so their order is enough
 rows-unique : {A B : Type 0} (R : A → B → Type 0) (Good : B → Type 0) (lay : B → List ℕ)
     → ((a : A) (p q : B) → R a p → R a q → Good p → Good q → (x y : List ℕ) → lay p ++ x ≡ lay q ++ y → (p ≡ q) × (x ≡ y))
-    → (l : List A) (p q : List B) → Both R l p → Both R l q → All Good p → All Good q → (x y : List ℕ) → concatMap lay p ++ x ≡ concatMap lay q ++ y → (p ≡ q) × (x ≡ y)
+    → (l : List A) (p q : List B) → Both R l p → Both R l q → All Good p → All Good q → (x y : List ℕ) → concatMap lay p ++ x ≡ concatMap lay q ++ y
+    → (p ≡ q) × (x ≡ y)
 unfolding concatMap
 rows-unique R Good lay one [] [] [] rp rq gp gq x y e = (refl, e)
 rows-unique R Good lay one [] [] (b ∷ q) rp rq gp gq x y e = absurd rq
@@ -212,7 +213,8 @@ vertices-inj =
 model-unique : Unique FitModel modelRecs
 unfolding modelRecs oneOf
 model-unique a b ga gb x y e =
-    let six : layThree layDecimal (a .scale) ++ layThree layDecimal (a .translate) ≡ layThree layDecimal (b .scale) ++ layThree layDecimal (b .translate) = cc in
+    let six : layThree layDecimal (a .scale) ++ layThree layDecimal (a .translate) ≡ layThree layDecimal (b .scale) ++ layThree layDecimal (b .translate) =
+    cc in
     let points : concatMap (layThree (signed 4)) (a .vertices) ≡ concatMap (layThree (signed 4)) (b .vertices) = cc in
     let rest : (concatMap objectRecs (a .objects) ++ endRecs) ++ x ≡ (concatMap objectRecs (b .objects) ++ endRecs) ++ y = cc in
     let three = three-unique FitDecimal layDecimal decimal-unique in
@@ -255,6 +257,8 @@ pub sheet-unique : Unique FitModel layModel
 unfolding layModel concatMap
 sheet-unique a b ga gb x y e =
     elim (runs (modelRecs a) (modelRecs b) (ga .payloads) (gb .payloads) x y e) [
-      | inl t ↦ let r = model-unique a b ga gb [] (t .0) (append-nil (modelRecs a) ∙ t .1) in (r .0, sym (t .2 ∙ ap (λ z. concatMap layRec z ++ x) (sym (r .1))))
-      | inr t ↦ let r = model-unique b a gb ga [] (t .0) (append-nil (modelRecs b) ∙ t .1) in (sym (r .0), t .2 ∙ ap (λ z. concatMap layRec z ++ y) (sym (r .1)))
+      | inl t ↦
+          let r = model-unique a b ga gb [] (t .0) (append-nil (modelRecs a) ∙ t .1) in (r .0, sym (t .2 ∙ ap (λ z. concatMap layRec z ++ x) (sym (r .1))))
+      | inr t ↦
+          let r = model-unique b a gb ga [] (t .0) (append-nil (modelRecs b) ∙ t .1) in (sym (r .0), t .2 ∙ ap (λ z. concatMap layRec z ++ y) (sym (r .1)))
     ]

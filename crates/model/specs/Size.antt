@@ -157,7 +157,8 @@ count-size (j ∷ l) = omega (arith, size-pos j, count-size l)
 pub count-within : (j : Json) → length (elements j) ≤ size j
 count-within j = omega (arith, count-size (elements j), elements-size j)
 
-each-bound : {A T : Type 0} (enc : A → List T) (f : A → ℕ) (c : ℕ) → ((a : A) → length (enc a) ≤ c * f a) → (l : List A) → length (concatMap enc l) ≤ c * total f l
+each-bound : {A T : Type 0} (enc : A → List T) (f : A → ℕ) (c : ℕ) → ((a : A) → length (enc a) ≤ c * f a) → (l : List A)
+    → length (concatMap enc l) ≤ c * total f l
 unfolding concatMap total
 each-bound enc f c h [] = omega arith
 each-bound enc f c h (a ∷ l) = omega (arith, length-append (enc a) (concatMap enc l), h a, each-bound enc f c h l)
@@ -204,14 +205,26 @@ unfolding surfaceRecs surfaceOf surfaceNamed weight concatMap
 surface-weight j =
     let t = textOf (get "type" j) in
     let s = surfaceNamed t in
-    omega (arith, weight-cons 7 (laySurface s) [], surface-cond (eqb (getD t 0 0) 43) t (codeOf surfaceWords t), text-size (get "type" j), get-size "type" j, size-pos j)
+    omega (
+      arith,
+      weight-cons 7 (laySurface s) [],
+      surface-cond (eqb (getD t 0 0) 43) t (codeOf surfaceWords t),
+      text-size (get "type" j),
+      get-size "type" j,
+      size-pos j,
+    )
 
 -- the weight of what a list of parts gives
 weight-bound : {A B : Type 0} (recs : B → List Rec) (read : A → B) (f : A → ℕ) (c : ℕ) → ((a : A) → weight (recs (read a)) ≤ c * f a)
     → (l : List A) → weight (concatMap recs (map read l)) ≤ c * total f l
 unfolding weight
 weight-bound recs read f c h l =
-    omega (arith, ap length (each-each recs layRec (map read l)), ap length (each-map (λ b. concatMap layRec (recs b)) read l), each-bound (λ a. concatMap layRec (recs (read a))) f c h l)
+    omega (
+      arith,
+      ap length (each-each recs layRec (map read l)),
+      ap length (each-map (λ b. concatMap layRec (recs b)) read l),
+      each-bound (λ a. concatMap layRec (recs (read a))) f c h l,
+    )
 
 semantics-weight : (c : ℕ) (o : Option Json) → weight (semanticsRecs c (Option·map (semanticsOf c) o)) ≤ 19 * found o
 unfolding semanticsRecs semanticsOf found weight concatMap
@@ -253,10 +266,19 @@ geometry-weight j =
       size-pos j,
     )
 
-links-length : (ids : List (List ℕ)) (n : String) (j : Json) → length (concatMap (le 4) (map (Model.objectNumber ids) (map textOf (elements (get n j))))) ≤ 4 * size j
+links-length : (ids : List (List ℕ)) (n : String) (j : Json)
+    → length (concatMap (le 4) (map (Model.objectNumber ids) (map textOf (elements (get n j))))) ≤ 4 * size j
 links-length ids n j =
     let l = elements (get n j) in
-    omega (arith, words-length (map (Model.objectNumber ids) (map textOf l)), length-map (map textOf l) (Model.objectNumber ids), length-map l textOf, count-size l, elements-size (get n j), get-size n j)
+    omega (
+      arith,
+      words-length (map (Model.objectNumber ids) (map textOf l)),
+      length-map (map textOf l) (Model.objectNumber ids),
+      length-map l textOf,
+      count-size l,
+      elements-size (get n j),
+      get-size n j,
+    )
 
 object-weight : (ids : List (List ℕ)) (m : Member) → weight (objectRecs (numberObject ids (objectOf m))) ≤ 61 * memberSize m
 unfolding objectRecs numberObject objectOf memberSize

@@ -163,7 +163,9 @@ Kind (rec k p) = Half k
 semantics-kinds : (c : ℕ) (s : Option (Semantics c)) → All Kind (semanticsRecs c s)
 unfolding semanticsRecs surfaceRecs
 semantics-kinds c none = tt
-semantics-kinds c (some s) = all-append Kind (concatMap surfaceRecs (s .surfaces)) (rec 8 (layValues (valuesDepth c) (s .values)) ∷ []) (all-each Kind surfaceRecs (λ f. (omega arith, tt)) (s .surfaces)) (omega arith, tt)
+semantics-kinds c (some s) =
+    all-append Kind (concatMap surfaceRecs (s .surfaces)) (rec 8 (layValues (valuesDepth c) (s .values)) ∷ [])
+    (all-each Kind surfaceRecs (λ f. (omega arith, tt)) (s .surfaces)) (omega arith, tt)
 
 geometry-kinds : (g : Geometry) → All Kind (geometryRecs g)
 unfolding geometryRecs
@@ -175,7 +177,10 @@ object-kinds o = (omega arith, (omega arith, (omega arith, all-each Kind geometr
 
 model-kinds : (t : ModelOf ℕ) → All Kind (modelRecs t)
 unfolding modelRecs
-model-kinds t = (omega arith, (omega arith, all-append Kind (concatMap objectRecs (t .objects)) endRecs (all-each Kind objectRecs object-kinds (t .objects)) (omega arith, tt)))
+model-kinds t = (
+  omega arith,
+  (omega arith, all-append Kind (concatMap objectRecs (t .objects)) endRecs (all-each Kind objectRecs object-kinds (t .objects)) (omega arith, tt)),
+)
 
 rec-fits : (r : Rec) → Kind r → length (layRec r) < 2 ^ 32 → FitRec r
 rec-fits (rec k p) h w = (h, omega (arith, length-rec k p))
@@ -194,7 +199,8 @@ model-fits t g =
     let v : length (t .vertices) < 2 ^ 32 = omega (arith, count (layThree (signed 4)) three-some (t .vertices)) in
     let many = weight-count objectRecs (λ o. omega arith) (u .objects) in
     let i : length ids < 2 ^ 32 = omega (arith, length-map (t .objects) (λ o. o .id), length-map (t .objects) (numberObject ids)) in
-    let each-light = all-in-map (λ o. weight (objectRecs o) < 2 ^ 32) (numberObject ids) (t .objects) (weight-parts objectRecs (2 ^ 32) (u .objects) (omega arith)) in
+    let each-light =
+    all-in-map (λ o. weight (objectRecs o) < 2 ^ 32) (numberObject ids) (t .objects) (weight-parts objectRecs (2 ^ 32) (u .objects) (omega arith)) in
     record {
       scale = three-map decimal-fits (t .scale) (g .scale);
       translate = three-map decimal-fits (t .translate) (g .translate);

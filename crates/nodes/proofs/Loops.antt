@@ -18,7 +18,7 @@ use Rattle.nodes.specs.Access.{isArrayValue, isObjectValue, listed, elem
 use Rattle.nodes.specs.Says.{Node, Gives, Finds, Seeks}
 use Rattle.nodes.specs.declared.Found.the-variants.{At, Nothing}
 use Rattle.nodes.specs.Laws.{quoted-at, elements-begin, fields-begin, no-elements, no-members}
-use Rattle.nodes.specs.Walks.{node-room, node-first, Walk, walk-of, walk-first, walk-second, walk-room, walk-some, walk-span, walk-less, walk-on}
+use Rattle.nodes.specs.Walks.{node-room, node-first, node-onward, Walk, walk-of, walk-first, walk-second, walk-room, walk-onward, walk-some, walk-fits, walk-span, walk-less, walk-on}
 use Rattle.nodes.proofs.Firsts.{node-inside}
 
 -- Counting: of the elements of the array at i, `found` stand before k
@@ -35,7 +35,12 @@ module _ {x t : List ℕ} {i : ℕ} where
   pub count-begin : {r : Bool} {n : ℕ} → Node x t i → Gives isArrayValue x t i r → not r ≡ false → n ≡ getD t (i + 2) 0 → Counts x t i n (i + 3) 0
   count-begin {r} {n} d g e q =
       let w = words (d .stands) in
-      record { node = d; within = omega (arith, w .next, sub-within (d .stands)); few = omega arith; left = λ v s. rw q (elements-begin (λ vs. 0 + length vs ≡ length (elements v)) s (sym (g .is v s) ∙ not-false r e) (zero-add _)) }
+      record {
+        node = d;
+        within = omega (arith, w .next, sub-within (d .stands));
+        few = omega arith;
+        left = λ v s. rw q (elements-begin (λ vs. 0 + length vs ≡ length (elements v)) s (sym (g .is v s) ∙ not-false r e) (zero-add _));
+      }
 
   module _ {n k found : ℕ} (c : Counts x t i n k found) where
     turn : k < n → Past x t k n (λ vs. found + length (listed vs) ≡ length (elements (c .node .value)))
@@ -101,10 +106,38 @@ module _ {x t : List ℕ} {i : ℕ} {name : List ℕ} where
 
       pub member-again : {m : ℕ} → b ≡ false → m ≡ getD t (k + 3 + 2) 0 → Searches x t i name n m
       unfolding pairs
-      member-again h o = record { walk = walk-on (c .walk) l o; left = λ v z. let u = member-past (c .left v z) l in rw o (member-over u (u .holds ∙ name-miss name b (u .key, u .value) (pairs (u .others)) h (tested u))) }
+      member-again h o =
+          record {
+            walk = walk-on (c .walk) l o;
+            left = λ v z.
+                let u = member-past (c .left v z) l in
+                rw o (member-over u (u .holds ∙ name-miss name b (u .key, u .value) (pairs (u .others)) h (tested u)));
+          }
 
     pub member-done : n ≤ k → Seeks (λ v. firstNamed name (members v)) x t i Nothing
     unfolding Finds pairs firstNamed
     member-done h = record { finds = λ v s. members-ended (c .left v s) h }
 
-pub ruleset loops = (needs, node-room, node-first, node-inside, count-none, count-begin, count-room, count-less, count-again, count-done, member-begin, member-again, walk-first, walk-second, walk-room, walk-some, walk-span, walk-less)
+pub ruleset loops = (
+  needs,
+  node-room,
+  node-first,
+  node-onward,
+  node-inside,
+  count-none,
+  count-begin,
+  count-room,
+  count-less,
+  count-again,
+  count-done,
+  member-begin,
+  member-again,
+  walk-first,
+  walk-second,
+  walk-room,
+  walk-onward,
+  walk-some,
+  walk-fits,
+  walk-span,
+  walk-less,
+)

@@ -29,7 +29,14 @@ pub record Kinds (b : ℕ) (v : Json) : Type 0 where
 
 numeral-kinds : {p e : ℕ} {raw : List ℕ} (b : ℕ) → true ≡ isNumeric b → Kinds b (tree.num p e raw)
 unfolding isNumeric isDigit isNullValue isNumberValue isStringValue isArrayValue isObjectValue
-numeral-kinds b h = record { null = ne-eqb b 110 (other-byte b 110 h refl); string = ne-eqb b 34 (other-byte b 34 h refl); array = ne-eqb b 91 (other-byte b 91 h refl); object = ne-eqb b 123 (other-byte b 123 h refl); number = sym h }
+numeral-kinds b h =
+    record {
+      null = ne-eqb b 110 (other-byte b 110 h refl);
+      string = ne-eqb b 34 (other-byte b 34 h refl);
+      array = ne-eqb b 91 (other-byte b 91 h refl);
+      object = ne-eqb b 123 (other-byte b 123 h refl);
+      number = sym h;
+    }
 
 pub kinds : {x t : List ℕ} {i : ℕ} {v : Json} → Sub x t i v → Kinds (getD x (getD t i 0) 0) v
 unfolding isNumeric isDigit isNullValue isNumberValue isStringValue isArrayValue isObjectValue
@@ -103,7 +110,14 @@ module _ {x t : List ℕ} where
   quoted-at {i} {p} {e} {raw} q =
       let w = q .words in
       let b : raw ≡ slice (getD t i 0 + 1) (getD t (i + 1) 0 - 1) x = rw (w .start, w .end) (q .between) in
-      record { room = w .room; fits = omega (arith, w .start, w .some, w .inside); some = omega (arith, w .end, w .some); span = record { low = omega (arith, w .start, w .end, q .quotes); high = omega (arith, w .end, w .inside) }; between = b; text = ap decode b }
+      record {
+        room = w .room;
+        fits = omega (arith, w .start, w .some, w .inside);
+        some = omega (arith, w .end, w .some);
+        span = record { low = omega (arith, w .start, w .end, q .quotes); high = omega (arith, w .end, w .inside) };
+        between = b;
+        text = ap decode b;
+      }
 
   -- where a name, or a string, starts
   pub quoted-place : {i p e : ℕ} {raw : List ℕ} → Quoted x t i p e raw → p ≡ getD t i 0
@@ -141,7 +155,8 @@ module _ {x t : List ℕ} where
   numeral-at (obj w ms) h = absurd (never h refl)
 
   -- where a loop over the elements of an array begins, and one over the members of an object
-  pub elements-begin : {i : ℕ} {v : Json} (P : List Json → Type 0) → Sub x t i v → isArrayValue v ≡ true → P (elements v) → Left x t (i + 3) (getD t (i + 2) 0) (λ vs. P (listed vs))
+  pub elements-begin : {i : ℕ} {v : Json} (P : List Json → Type 0) → Sub x t i v → isArrayValue v ≡ true → P (elements v)
+      → Left x t (i + 3) (getD t (i + 2) 0) (λ vs. P (listed vs))
   unfolding isArrayValue elements
   elements-begin P (null w) h p = absurd (never h refl)
   elements-begin P (bool w) h p = absurd (never h refl)
@@ -150,7 +165,8 @@ module _ {x t : List ℕ} where
   elements-begin P (arr {p = q} {e = e} {vs = vs} w ss) h p = begin (record { place = q; end = e; kids = vs; stands = arr w ss }) p
   elements-begin P (obj w ms) h p = absurd (never h refl)
 
-  pub object-begin : {i : ℕ} {v : Json} {P : Members → Type 0} → Sub x t i v → isObjectValue v ≡ true → P (fieldsOf v) → MembersLeft x t (i + 3) (getD t (i + 2) 0) P
+  pub object-begin : {i : ℕ} {v : Json} {P : Members → Type 0} → Sub x t i v → isObjectValue v ≡ true → P (fieldsOf v)
+      → MembersLeft x t (i + 3) (getD t (i + 2) 0) P
   unfolding isObjectValue fieldsOf
   object-begin (null w) h p = absurd (never h refl)
   object-begin (bool w) h p = absurd (never h refl)
@@ -159,7 +175,8 @@ module _ {x t : List ℕ} where
   object-begin (arr w vs) h p = absurd (never h refl)
   object-begin (obj {p = q} {e = e} {ms = ms} w fs) h p = members-begin (record { place = q; end = e; fields = ms; stands = obj w fs }) p
 
-  pub fields-begin : {i : ℕ} {v : Json} (P : List Member → Type 0) → Sub x t i v → isObjectValue v ≡ true → P (members v) → MembersLeft x t (i + 3) (getD t (i + 2) 0) (λ ms. P (pairs ms))
+  pub fields-begin : {i : ℕ} {v : Json} (P : List Member → Type 0) → Sub x t i v → isObjectValue v ≡ true → P (members v)
+      → MembersLeft x t (i + 3) (getD t (i + 2) 0) (λ ms. P (pairs ms))
   fields-begin {v = v} P s h p = object-begin s h (rw (← members-fields v) p)
 
 -- a value that is no array has no elements, and one that is no object no members
@@ -200,7 +217,8 @@ pub least-comm : (b : ℕ) (xs ys : List ℕ) → least b (xs ++ ys) ≡ least b
 unfolding least
 least-comm b [] ys = ap (least b) (sym (append-nil ys))
 least-comm b (f ∷ xs) ys =
-    least-min b f (xs ++ ys) ∙ (ap (λ (n : ℕ). min n f) (least-comm b xs ys ∙ least-++ b ys xs) ∙ (sym (least-min (least b ys) f xs) ∙ sym (least-++ b ys (f ∷ xs))))
+    least-min b f (xs ++ ys)
+    ∙ (ap (λ (n : ℕ). min n f) (least-comm b xs ys ∙ least-++ b ys xs) ∙ (sym (least-min (least b ys) f xs) ∙ sym (least-++ b ys (f ∷ xs))))
 
 pub least-le : (b : ℕ) (xs : List ℕ) → least b xs ≤ b
 unfolding least

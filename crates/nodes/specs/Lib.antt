@@ -4,3 +4,5 @@ pub mod Access
 pub mod Says
 pub mod Laws
 pub mod Walks
+pub mod Walk
+pub mod Unique

@@ -38,8 +38,8 @@ module _ {x t : List ℕ} {k : ℕ} {raw : List ℕ} (s : StringAt x t k raw) wh
   pub string-some : {e : ℕ} → e ≡ getD t (k + 1) 0 → 1 ≤ e
   string-some q = rw q (s .some)
 
-  pub string-fits : {p : ℕ} → p ≡ getD t k 0 → p + 1 ≤ length x
-  string-fits q = rw q (s .fits)
+  pub string-fits : {p : ℕ} → p ≡ getD t k 0 → length x * 1 < 2 ^ 63 → Fits w64 (p + 1)
+  string-fits q h = record { fits = omega (arith, s .fits) }
 
   pub string-span : {p e : ℕ} → p ≡ getD t k 0 → e ≡ getD t (k + 1) 0 → Span x (p + 1) (e - 1)
   string-span q r = rw (q, r) (s .span)
@@ -72,11 +72,15 @@ module _ {x t : List ℕ} {n k : ℕ} (c : Walk x t n k) where
   pub walk-room : k < n → k + 3 + 2 < length t
   walk-room l = walk-past l .word .room
 
+  -- the index of the member's value fits
+  pub walk-onward : k < n → length t * 4 < 2 ^ 63 → Fits w64 (k + 3)
+  walk-onward l h = record { fits = omega (arith, walk-room l) }
+
   pub walk-some : {e : ℕ} → k < n → e ≡ getD t (k + 1) 0 → 1 ≤ e
   walk-some l q = string-some (walk-string l) q
 
-  pub walk-fits : {p : ℕ} → k < n → p ≡ getD t k 0 → p + 1 ≤ length x
-  walk-fits l q = string-fits (walk-string l) q
+  pub walk-fits : {p : ℕ} → k < n → p ≡ getD t k 0 → length x * 1 < 2 ^ 63 → Fits w64 (p + 1)
+  walk-fits l q h = string-fits (walk-string l) q h
 
   pub walk-span : {p e : ℕ} → k < n → p ≡ getD t k 0 → e ≡ getD t (k + 1) 0 → Span x (p + 1) (e - 1)
   walk-span l q r = string-span (walk-string l) q r

@@ -163,4 +163,29 @@ module _ {text : List ℕ} {at end n i : ℕ} (p : Counts text at end n i) where
       unfolding saturated
       counts-large l = let w = natural-low (n * 10 + (getD text i 0 - 48)) (digits (slice (i + 1) end text)) in let z = counts-digit e in omega (arith, digit-high (getD text i 0) e)
 
-pub ruleset bytes = (needs, flag-yes, flag-no, flag-not-yes, flag-not-no, is-digit, under-digit, over-digit, is-letter, no-letter, digit-low, digit-high, plain-start, plain-end, plain-point, plain-letter, plain-more, no-sign, a-sign, counts-start, counts-end, counts-same, counts-more, counts-large)
+pub ruleset bytes = (
+  needs,
+  flag-yes,
+  flag-no,
+  flag-not-yes,
+  flag-not-no,
+  is-digit,
+  under-digit,
+  over-digit,
+  is-letter,
+  no-letter,
+  digit-low,
+  digit-high,
+  plain-start,
+  plain-end,
+  plain-point,
+  plain-letter,
+  plain-more,
+  no-sign,
+  a-sign,
+  counts-start,
+  counts-end,
+  counts-same,
+  counts-more,
+  counts-large,
+)

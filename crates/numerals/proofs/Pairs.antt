@@ -164,15 +164,24 @@ module _ (raw : List ℕ) (s : Sum) (e : s ≡ sums nothing (mantissa raw)) wher
       let q = sums-places nothing (mantissa raw) in
       let w = ap (λ t. t .places) e in
       let p : places raw ≡ s .places = omega arith in
-      ap (λ t. scaled (negative raw) t (exponent raw -ℤ pos (places raw))) (sym (sums-trim nothing (mantissa raw)) ∙ ap trimOf (sym e)) ∙ ap (λ n. scaled (negative raw) (trimOf s) (exponent raw -ℤ pos n)) p
+      ap (λ t. scaled (negative raw) t (exponent raw -ℤ pos (places raw))) (sym (sums-trim nothing (mantissa raw)) ∙ ap trimOf (sym e))
+      ∙ ap (λ n. scaled (negative raw) (trimOf s) (exponent raw -ℤ pos n)) p
 
   decimal-zero : s .m ≡ 0 → decimal raw ≡ record { m = pos 0; e = pos 0 }
   unfolding scaled
-  decimal-zero z = decimal-scaled ∙ ap (λ t. cond t (record { m = pos 0; e = pos 0 }) (record { m = signed (negative raw) (s .m); e = pos (s .zeros) +ℤ (exponent raw -ℤ pos (s .places)) })) (eq-eqb (s .m) 0 z)
+  decimal-zero z =
+      decimal-scaled
+      ∙ ap
+      (λ t. cond t (record { m = pos 0; e = pos 0 }) (record { m = signed (negative raw) (s .m); e = pos (s .zeros) +ℤ (exponent raw -ℤ pos (s .places)) }))
+      (eq-eqb (s .m) 0 z)
 
   decimal-other : (s .m ≡ 0 → ⊥) → decimal raw ≡ record { m = signed (negative raw) (s .m); e = exact }
   unfolding scaled exact powerOf exponent
-  decimal-other n = decimal-scaled ∙ ap (λ t. cond t (record { m = pos 0; e = pos 0 }) (record { m = signed (negative raw) (s .m); e = pos (s .zeros) +ℤ (exponent raw -ℤ pos (s .places)) })) (ne-eqb (s .m) 0 n)
+  decimal-other n =
+      decimal-scaled
+      ∙ ap
+      (λ t. cond t (record { m = pos 0; e = pos 0 }) (record { m = signed (negative raw) (s .m); e = pos (s .zeros) +ℤ (exponent raw -ℤ pos (s .places)) }))
+      (ne-eqb (s .m) 0 n)
 
   large : 10 ^ 15 ≤ s .m → none ≡ pairOf raw
   large h = pair-none raw _ (decimal-other (omega arith)) (range-large (record { m = signed (negative raw) (s .m); e = exact }) (rw (natAbs-signed (negative raw) (s .m)) h))
@@ -194,7 +203,9 @@ module _ (text : List ℕ) (at end : ℕ) {r : Mantissa} {s : Sum} {next : ℕ} 
 
   pub pair-zero : s .m ≡ 0 → pairIn (Pair (pos 0) (pos 0)) ≡ pairOf (slice at end text)
   unfolding pairIn
-  pair-zero z = pair-some (slice at end text) (record { m = pos 0; e = pos 0 }) (decimal-zero (slice at end text) s (is-read .sum) z) (range-yes (record { m = pos 0; e = pos 0 }) (omega arith) (omega arith))
+  pair-zero z =
+      pair-some (slice at end text) (record { m = pos 0; e = pos 0 }) (decimal-zero (slice at end text) s (is-read .sum) z)
+      (range-yes (record { m = pos 0; e = pos 0 }) (omega arith) (omega arith))
 
   module _ (n : s .m ≡ 0 → ⊥) {w : Whole} (v : IsWhole (slice next end text) w) where
     -- the sign and the magnitude of the exponent, and the power that the exponent gives, as they are and as they were read
@@ -234,7 +245,8 @@ module _ (text : List ℕ) (at end : ℕ) {r : Mantissa} {s : Sum} {next : ℕ} 
     unfolding pairIn Reaches read-power
     pair-beyond f p = beyond (subst (Reaches read-power) f p)
 
-    pub pair-ranged : {t : Power} {e m : ℤ} {neg : Bool} → t ≡ Ranged e → Reaches (powerOf (s .zeros) (s .places) (w .negative) (w .magnitude)) t → neg ≡ negative (slice at end text) → m ≡ signed neg (s .m) → pairIn (Pair (toZ w64 (ofZ w64 m)) (toZ w64 (ofZ w64 e))) ≡ pairOf (slice at end text)
+    pub pair-ranged : {t : Power} {e m : ℤ} {neg : Bool} → t ≡ Ranged e → Reaches (powerOf (s .zeros) (s .places) (w .negative) (w .magnitude)) t
+        → neg ≡ negative (slice at end text) → m ≡ signed neg (s .m) → pairIn (Pair (toZ w64 (ofZ w64 m)) (toZ w64 (ofZ w64 e))) ≡ pairOf (slice at end text)
     unfolding pairIn Reaches read-power
     pair-ranged {t} {e} {m} {neg} f p g x =
         let b = subst (Reaches read-power) f p in

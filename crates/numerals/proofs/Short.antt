@@ -143,7 +143,9 @@ unfolding digits natural
 natural-small n [] = omega arith
 natural-small n (b ∷ s) = by-test (isDigit b) refl (natural-small n s) (natural-small (n * 10 + (b - 48)) s)
   where
-    by-test : (y : Bool) → isDigit b ≡ y → natural n (digits s) < (n + 1) * 10 ^ length (digits s) → natural (n * 10 + (b - 48)) (digits s) < (n * 10 + (b - 48) + 1) * 10 ^ length (digits s) → natural n (cond y ((b - 48) ∷ []) [] ++ digits s) < (n + 1) * 10 ^ length (cond y ((b - 48) ∷ []) [] ++ digits s)
+    by-test : (y : Bool) → isDigit b ≡ y → natural n (digits s) < (n + 1) * 10 ^ length (digits s)
+        → natural (n * 10 + (b - 48)) (digits s) < (n * 10 + (b - 48) + 1) * 10 ^ length (digits s)
+        → natural n (cond y ((b - 48) ∷ []) [] ++ digits s) < (n + 1) * 10 ^ length (cond y ((b - 48) ∷ []) [] ++ digits s)
     by-test true e f g =
         let l = length (digits s) in
         let d : n * 10 + (b - 48) + 1 ≤ (n + 1) * 10 = omega (arith, digit-high b (sym e)) in
@@ -195,7 +197,12 @@ module _ (text : List ℕ) (at end : ℕ) (k : end ≤ length text) (s : end - a
 
   pub short-plus : {r : Bool} → (getD text at 0 ≡ 45 → ⊥) → r ≡ allDigits (slice at end text) → Short (slice at end text) r
   unfolding isShort
-  short-plus b e = record { is = e ∙ (ap allDigits next ∙ sym (ap isShort next ∙ rw (few, ne-eqb (getD text at 0) 45 b))); whole = λ q. digits-whole (slice at end text) (sym e ∙ q); fits = λ q. fits-so }
+  short-plus b e =
+      record {
+        is = e ∙ (ap allDigits next ∙ sym (ap isShort next ∙ rw (few, ne-eqb (getD text at 0) 45 b)));
+        whole = λ q. digits-whole (slice at end text) (sym e ∙ q);
+        fits = λ q. fits-so;
+      }
 
   pub short-minus : {r : Bool} → getD text at 0 ≡ 45 → r ≡ allDigits (slice (at + 1) end text) → Short (slice at end text) r
   unfolding isShort isInteger
@@ -206,4 +213,21 @@ module _ (text : List ℕ) (at end : ℕ) (k : end ≤ length text) (s : end - a
         fits = λ q. fits-so;
       }
 
-pub ruleset short = (bytes, digital-start, digital-end, digital-not, digital-more, quickly-start, quickly-other, quickly-end, quickly-times, quickly-plus, quickly-more, quick-long, short-long, short-empty, short-plus, short-minus)
+pub ruleset short = (
+  bytes,
+  digital-start,
+  digital-end,
+  digital-not,
+  digital-more,
+  quickly-start,
+  quickly-other,
+  quickly-end,
+  quickly-times,
+  quickly-plus,
+  quickly-more,
+  quick-long,
+  short-long,
+  short-empty,
+  short-plus,
+  short-minus,
+)

@@ -99,7 +99,8 @@ module _ {s : Sum} (b : ℕ) (h : Room s) where
       let z : b - 48 ≡ 0 = omega arith in
       same-sum _ (capped (digit s 0)) small-m refl q refl ∙ ap (λ t. capped (digit s t)) (sym z) ∙ sym (ap capped (taken-yes s b (is-digit b (omega arith) (omega arith))))
 
-  pub take-digit : {places m v : ℕ} → (b ≡ 48 → ⊥) → true ≡ isDigit b → v ≡ b - 48 → places ≡ s .places + cond (s .point) 1 0 → m ≡ min (s .m * 10 ^ (s .zeros + 1) + v) (10 ^ 15) → record { m = m; zeros = 0; places = places; point = s .point } ≡ capped (taken s b)
+  pub take-digit : {places m v : ℕ} → (b ≡ 48 → ⊥) → true ≡ isDigit b → v ≡ b - 48 → places ≡ s .places + cond (s .point) 1 0
+      → m ≡ min (s .m * 10 ^ (s .zeros + 1) + v) (10 ^ 15) → record { m = m; zeros = 0; places = places; point = s .point } ≡ capped (taken s b)
   unfolding capped digit
   take-digit n e v q w =
       let l = digit-low b e in
@@ -207,4 +208,24 @@ module _ {text : List ℕ} {at end : ℕ} {s : Sum} {i : ℕ} (p : Inside text a
             places = omega (arith, p .places);
           }
 
-pub ruleset digital = (bytes, raised-start, raised-more, raised-large, raised-out, raised-in, counted-yes, counted-no, take-point, take-other, take-zero, take-digit, value-small, inside-room, inside-start, inside-end, inside-letter, inside-large, inside-more)
+pub ruleset digital = (
+  bytes,
+  raised-start,
+  raised-more,
+  raised-large,
+  raised-out,
+  raised-in,
+  counted-yes,
+  counted-no,
+  take-point,
+  take-other,
+  take-zero,
+  take-digit,
+  value-small,
+  inside-room,
+  inside-start,
+  inside-end,
+  inside-letter,
+  inside-large,
+  inside-more,
+)

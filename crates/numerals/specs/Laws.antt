@@ -168,7 +168,8 @@ whole-scaled : (neg : Bool) (t : Trimmed) → wholeOf (scaled neg t (pos 0)) ≡
 unfolding wholeOf scaled timesTen
 whole-scaled neg t = by-cases (t .m) (eqb (t .m) 0) refl
   where
-    by-cases : (m : ℕ) (z : Bool) → eqb m 0 ≡ z → wholeOf (cond z (record { m = pos 0; e = pos 0 }) (record { m = signed neg m; e = pos (t .zeros + 0) })) ≡ signed neg (m * 10 ^ t .zeros)
+    by-cases : (m : ℕ) (z : Bool) → eqb m 0 ≡ z
+        → wholeOf (cond z (record { m = pos 0; e = pos 0 }) (record { m = signed neg m; e = pos (t .zeros + 0) })) ≡ signed neg (m * 10 ^ t .zeros)
     by-cases m true e = rw (eqb-true m 0 e, zero-mul (10 ^ t .zeros)) (zero-signed neg)
     by-cases m false e = rw add-zero (times-signed neg m (10 ^ t .zeros))
 
@@ -177,7 +178,9 @@ pub whole : (raw : List ℕ) → isInteger raw ≡ true → wholeOf (decimal raw
 unfolding decimal integer
 whole raw e =
     let h = plain raw e in
-    ap wholeOf (parts raw (before-all (h .1)) (after-all (h .1)) (after-all (h .0))) ∙ whole-scaled (negative raw) (trimmed none-yet (digits raw)) ∙ ap (signed (negative raw)) (sym (meaning (digits raw)))
+    ap wholeOf (parts raw (before-all (h .1)) (after-all (h .1)) (after-all (h .0))) ∙ whole-scaled (negative raw) (trimmed none-yet (digits raw))
+    ∙ ap (signed (negative raw)) (sym (meaning (digits raw)))
   where
-    parts : (raw : List ℕ) → before isLetter raw ≡ raw → after isLetter raw ≡ [] → after isPoint raw ≡ [] → decimal raw ≡ scaled (negative raw) (trimmed none-yet (digits raw)) (pos 0)
+    parts : (raw : List ℕ) → before isLetter raw ≡ raw → after isLetter raw ≡ [] → after isPoint raw ≡ []
+        → decimal raw ≡ scaled (negative raw) (trimmed none-yet (digits raw)) (pos 0)
     parts raw b a p = rw (b, a, p)

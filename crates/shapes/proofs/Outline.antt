@@ -42,7 +42,9 @@ integer-of v n w = rw n w
 -- an integer below the count breaks neither
 sound : (count : ℕ) (v : Json) → isIntegerValue v ≡ true → not (isNumberValue v) || isBelow count (integer (numeralOf v)) ≡ true → shaped 0 v ++ ranged count 0 v ≡ []
 unfolding unless
-sound count v a b = rw (shaped-last v, ranged-last count v) (ap (λ (k : Bool). unless k 12 v ++ unless (not (isNumberValue v) || isBelow count (integer (numeralOf v))) 13 v) a ∙ ap (λ (k : Bool). unless k 13 v) b)
+sound count v a b =
+    rw (shaped-last v, ranged-last count v)
+    (ap (λ (k : Bool). unless k 12 v ++ unless (not (isNumberValue v) || isBelow count (integer (numeralOf v))) 13 v) a ∙ ap (λ (k : Bool). unless k 13 v) b)
 
 -- where both rules are broken at one place, 12 is the lesser
 least-lower : (best : ℕ) (k : Bool) (v : Json) → least best (unless false 12 v ++ unless k 13 v) ≡ least best (unless false 12 v)
@@ -63,7 +65,8 @@ module _ {x t : List ℕ} {i : ℕ} where
   clears-best best c k e = record { is = λ v s. least-none (k .none e v s) }
 
   -- a number below the count
-  pub clears-ranged : (count : ℕ) {b : Bool} {p e q : ℕ} → Gives isNumberValue x t i b → not b ≡ false → p ≡ getD t i 0 → e ≡ getD t (i + 1) 0 → Quick (slice p e x) q → Fits w64 count → Clears (λ v. shaped 0 v ++ ranged count 0 v) x t i (ltb q count)
+  pub clears-ranged : (count : ℕ) {b : Bool} {p e q : ℕ} → Gives isNumberValue x t i b → not b ≡ false → p ≡ getD t i 0 → e ≡ getD t (i + 1) 0
+      → Quick (slice p e x) q → Fits w64 count → Clears (λ v. shaped 0 v ++ ranged count 0 v) x t i (ltb q count)
   clears-ranged count {b} {p} {e} {q} g h f o k w = record { none = λ z v s. told v s (sym (g .is v s) ∙ not-false b h) z }
     where
       told : (v : Json) → Sub x t i v → isNumberValue v ≡ true → ltb q count ≡ true → shaped 0 v ++ ranged count 0 v ≡ []
@@ -77,7 +80,15 @@ module _ {x t : List ℕ} {i : ℕ} where
   -- no integer, and an integer
   module _ (best count : ℕ) {b : Bool} {r : ℕ} (g : Gives isIntegerValue x t i b) where
     pub leaf-no : not b ≡ true → Gives (λ v. least best (unless false 12 v)) x t i r → Gives (λ v. least best (shaped 0 v ++ ranged count 0 v)) x t i r
-    leaf-no e u = record { is = λ v s. rw (shaped-last v, ranged-last count v) (u .is v s ∙ sym (ap (λ (k : Bool). least best (unless k 12 v ++ unless (not (isNumberValue v) || isBelow count (integer (numeralOf v))) 13 v)) (sym (g .is v s) ∙ not-true b e) ∙ least-lower best (not (isNumberValue v) || isBelow count (integer (numeralOf v))) v)) }
+    leaf-no e u =
+        record {
+          is = λ v s.
+              rw (shaped-last v, ranged-last count v)
+              (u .is v s
+              ∙ sym
+              (ap (λ (k : Bool). least best (unless k 12 v ++ unless (not (isNumberValue v) || isBelow count (integer (numeralOf v))) 13 v))
+              (sym (g .is v s) ∙ not-true b e) ∙ least-lower best (not (isNumberValue v) || isBelow count (integer (numeralOf v))) v));
+        }
 
     pub leaf-yes : not b ≡ false → Gives (λ v. least best (ranged count 0 v)) x t i r → Gives (λ v. least best (shaped 0 v ++ ranged count 0 v)) x t i r
     unfolding shaped
@@ -88,14 +99,18 @@ module _ {x t : List ℕ} {i : ℕ} where
     pub boundary-leaf : depth ≡ 0 → Gives (λ v. least best (shaped 0 v ++ ranged count 0 v)) x t i r → Gives (λ v. least best (shaped depth v ++ ranged count depth v)) x t i r
     boundary-leaf e g = rw e g
 
-    pub boundary-no : {b : Bool} → (depth ≡ 0 → ⊥) → Gives isArrayValue x t i b → not b ≡ true → Gives (λ v. least best (unless false 12 v)) x t i r → Gives (λ v. least best (shaped depth v ++ ranged count depth v)) x t i r
+    pub boundary-no : {b : Bool} → (depth ≡ 0 → ⊥) → Gives isArrayValue x t i b → not b ≡ true → Gives (λ v. least best (unless false 12 v)) x t i r
+        → Gives (λ v. least best (shaped depth v ++ ranged count depth v)) x t i r
     boundary-no h g e u = gives-then best r (shaped depth) (ranged count depth) (shaped-no best depth h g e u) (ranged-deep r count depth h (pass-none (ranged count (depth - 1)) r g e))
 
-    pub boundary-yes : {b : Bool} → (depth ≡ 0 → ⊥) → Gives isArrayValue x t i b → not b ≡ false → Gives (λ v. least best (eachElement (λ w. shaped (depth - 1) w ++ ranged count (depth - 1) w) v)) x t i r → Gives (λ v. least best (shaped depth v ++ ranged count depth v)) x t i r
+    pub boundary-yes : {b : Bool} → (depth ≡ 0 → ⊥) → Gives isArrayValue x t i b → not b ≡ false
+        → Gives (λ v. least best (eachElement (λ w. shaped (depth - 1) w ++ ranged count (depth - 1) w) v)) x t i r
+        → Gives (λ v. least best (shaped depth v ++ ranged count depth v)) x t i r
     unfolding unless
     boundary-yes {b} h g e u =
         record {
           is = λ v s.
-              let a : shaped depth v ≡ eachElement (shaped (depth - 1)) v = shaped-suc depth h v ∙ ap (λ (k : Bool). unless k 12 v ++ eachElement (shaped (depth - 1)) v) (sym (g .is v s) ∙ not-false b e) in
+              let a : shaped depth v ≡ eachElement (shaped (depth - 1)) v =
+              shaped-suc depth h v ∙ ap (λ (k : Bool). unless k 12 v ++ eachElement (shaped (depth - 1)) v) (sym (g .is v s) ∙ not-false b e) in
               rw (a, ranged-suc count depth h v) (each-both best (shaped (depth - 1)) (ranged count (depth - 1)) u .is v s);
         }

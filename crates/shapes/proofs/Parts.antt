@@ -88,7 +88,8 @@ module _ {x t : List ℕ} {i : ℕ} where
   unfolding threeEntries
   three-none best {b} g e = record { is = λ v s. unless-true best 12 v (ap (λ (b : Bool). not b || eqb (length (elements v)) 3) (sym (g .is v s) ∙ not-true b e)) }
 
-  pub three-is : (best : ℕ) {b : Bool} {n r : ℕ} → Gives isArrayValue x t i b → not b ≡ false → Gives (λ v. length (elements v)) x t i n → Gives (λ v. least best (unless (eqb n 3) 12 v)) x t i r → Gives (λ v. least best (threeEntries v)) x t i r
+  pub three-is : (best : ℕ) {b : Bool} {n r : ℕ} → Gives isArrayValue x t i b → not b ≡ false → Gives (λ v. length (elements v)) x t i n
+      → Gives (λ v. least best (unless (eqb n 3) 12 v)) x t i r → Gives (λ v. least best (threeEntries v)) x t i r
   unfolding threeEntries
   three-is best {b} {n} {r} g e k u = record { is = λ v s. u .is v s ∙ ap (λ (b : Bool). least best (unless b 12 v)) (told v s) }
     where
@@ -123,14 +124,14 @@ module _ {x t : List ℕ} {i : ℕ} where
     unfolding pairedAs pairOrFault orFault pairIn
     pair-taken k = record { is = λ v s. rw (← pair-bytes v s, k) }
 
-  module _ (best : ℕ) {b : Bool} {a : Paired} (g : Gives isNumberValue x t i b) (h : not b ≡ false) (r : GivesPair x t i a) where
+  module _ (best : ℕ) {a : Paired} (g : Gives isNumberValue x t i true) (r : GivesPair x t i a) where
     pair-least : (v : Json) → Sub x t i v → least best (pairRange v) ≡ orBest best (pairedAs a)
     unfolding pairOrFault pairRange numeral unless isSome orFault least
     pair-least v s = by (pairOf (numeralOf v)) refl ∙ ap (orBest best) (sym (r .is v s))
       where
         by : (o : Option Decimal) → pairOf (numeralOf v) ≡ o → least best (pairRange v) ≡ orBest best (orFault v o)
-        by option.none e = let z : isNumberValue v ≡ true = sym (g .is v s) ∙ not-false b h in rw (z, e)
-        by (some d) e = let z : isNumberValue v ≡ true = sym (g .is v s) ∙ not-false b h in rw (z, e)
+        by option.none e = rw (← g .is v s, e)
+        by (some d) e = rw (← g .is v s, e)
 
     pub pair-in : {n d : ℤ} → a ≡ paired.Pair n d → Gives (λ v. least best (pairRange v)) x t i best
     unfolding pairedAs
@@ -145,21 +146,27 @@ module _ {x t : List ℕ} {i : ℕ} where
   unfolding coordinate
   coordinate-none best g e = numeral-none best 13 (λ raw. fits32 (integer raw)) g e
 
-  pub coordinate-is : (best : ℕ) {p e r : ℕ} {b k : Bool} → Gives isNumberValue x t i b → not b ≡ false → p ≡ getD t i 0 → e ≡ getD t (i + 1) 0 → k ≡ fits32 (integer (slice p e x)) → Gives (λ v. least best (unless k 13 v)) x t i r → Gives (λ v. least best (coordinate v)) x t i r
+  pub coordinate-is : (best : ℕ) {p e r : ℕ} {k : Bool}
+      → Gives isNumberValue x t i true → p ≡ getD t i 0 → e ≡ getD t (i + 1) 0 → k ≡ fits32 (integer (slice p e x))
+      → Gives (λ v. least best (unless k 13 v)) x t i r → Gives (λ v. least best (coordinate v)) x t i r
   unfolding coordinate
-  coordinate-is best g h q o m u = numeral-is best 13 (λ raw. fits32 (integer raw)) g h q o m u
+  coordinate-is best g q o m u = numeral-is best 13 (λ raw. fits32 (integer raw)) g refl q o m u
 
   -- an integer below the count
   pub below-none : (best count : ℕ) {b : Bool} → Gives isNumberValue x t i b → not b ≡ true → Gives (λ v. least best (ranged count 0 v)) x t i best
   unfolding ranged
   below-none best count g e = numeral-none best 13 (λ raw. isBelow count (integer raw)) g e
 
-  pub below-is : (best count : ℕ) {p e r : ℕ} {b k : Bool} → Gives isNumberValue x t i b → not b ≡ false → p ≡ getD t i 0 → e ≡ getD t (i + 1) 0 → k ≡ isBelow count (integer (slice p e x)) → Gives (λ v. least best (unless k 13 v)) x t i r → Gives (λ v. least best (ranged count 0 v)) x t i r
+  pub below-is : (best count : ℕ) {p e r : ℕ} {k : Bool}
+      → Gives isNumberValue x t i true → p ≡ getD t i 0 → e ≡ getD t (i + 1) 0 → k ≡ isBelow count (integer (slice p e x))
+      → Gives (λ v. least best (unless k 13 v)) x t i r → Gives (λ v. least best (ranged count 0 v)) x t i r
   unfolding ranged
-  below-is best count g h q o m u = numeral-is best 13 (λ raw. isBelow count (integer raw)) g h q o m u
+  below-is best count g q o m u = numeral-is best 13 (λ raw. isBelow count (integer raw)) g refl q o m u
 
   -- three pairs
-  pub three-pairs-is : (best k s : ℕ) {r : ℕ} → Gives (λ v. least best (arrayKind v)) x t i k → Gives (λ v. least k (threeEntries v)) x t i s → Gives (λ v. least s (eachElement numberKind v ++ eachElement pairRange v)) x t i r → Gives (λ v. least best (arrayKind v ++ eachElement numberKind v ++ threeEntries v ++ eachElement pairRange v)) x t i r
+  pub three-pairs-is : (best k s : ℕ) {r : ℕ} → Gives (λ v. least best (arrayKind v)) x t i k → Gives (λ v. least k (threeEntries v)) x t i s
+      → Gives (λ v. least s (eachElement numberKind v ++ eachElement pairRange v)) x t i r
+      → Gives (λ v. least best (arrayKind v ++ eachElement numberKind v ++ threeEntries v ++ eachElement pairRange v)) x t i r
   three-pairs-is best k s f g h = record { is = λ v z. h .is v z ∙ (rw (g .is v z, f .is v z) (mixed best (arrayKind v) (eachElement numberKind v) (threeEntries v) (eachElement pairRange v))) }
     where
       mixed : (b : ℕ) (p q r s : List ℕ) → least (least (least b p) r) (q ++ s) ≡ least b (((p ++ q) ++ r) ++ s)
@@ -204,10 +211,12 @@ module _ {x t : List ℕ} {i : ℕ} where
     shaped-deep : {r : ℕ} → (depth ≡ 0 → ⊥) → Gives (λ v. least best (unless (isArrayValue v) 12 v ++ eachElement (shaped (depth - 1)) v)) x t i r → Gives (λ v. least best (shaped depth v)) x t i r
     shaped-deep h g = record { is = λ v s. g .is v s ∙ ap (least best) (sym (shaped-suc depth h v)) }
 
-    pub shaped-no : {b : Bool} {r : ℕ} → (depth ≡ 0 → ⊥) → Gives isArrayValue x t i b → not b ≡ true → Gives (λ v. least best (unless false 12 v)) x t i r → Gives (λ v. least best (shaped depth v)) x t i r
+    pub shaped-no : {b : Bool} {r : ℕ} → (depth ≡ 0 → ⊥) → Gives isArrayValue x t i b → not b ≡ true → Gives (λ v. least best (unless false 12 v)) x t i r
+        → Gives (λ v. least best (shaped depth v)) x t i r
     shaped-no {b} h g e u = shaped-deep h (kind-no best 12 (eachElement (shaped (depth - 1))) g (each-none (shaped (depth - 1))) e (rw (not-true b e) u))
 
-    pub shaped-yes : {b : Bool} {r : ℕ} → (depth ≡ 0 → ⊥) → Gives isArrayValue x t i b → not b ≡ false → Gives (λ v. least best (eachElement (shaped (depth - 1)) v)) x t i r → Gives (λ v. least best (shaped depth v)) x t i r
+    pub shaped-yes : {b : Bool} {r : ℕ} → (depth ≡ 0 → ⊥) → Gives isArrayValue x t i b → not b ≡ false
+        → Gives (λ v. least best (eachElement (shaped (depth - 1)) v)) x t i r → Gives (λ v. least best (shaped depth v)) x t i r
     shaped-yes h g e p = shaped-deep h (kind-yes best 12 (eachElement (shaped (depth - 1))) g e p)
 
   -- integers in range at that depth
@@ -242,12 +251,24 @@ module _ {x t : List ℕ} {i : ℕ} where
 
     pub integers-wrong : {r : Bool} → k < n → Gives isIntegerValue x t k r → not r ≡ true → Gives (λ v. allIntegers (elements v)) x t i false
     unfolding listed allIntegers
-    integers-wrong {r} l g e = record { is = λ v s. let u = past (p .left v s) l in let z : isIntegerValue (u .value) ≡ false = sym (g .is (u .value) (u .stands)) ∙ not-true r e in rw z at (u .holds) }
+    integers-wrong {r} l g e =
+        record {
+          is = λ v s.
+              let u = past (p .left v s) l in
+              let z : isIntegerValue (u .value) ≡ false = sym (g .is (u .value) (u .stands)) ∙ not-true r e in
+              rw z at (u .holds);
+        }
 
     pub integers-turn : {m : ℕ} {r : Bool} → k < n → Gives isIntegerValue x t k r → not r ≡ false → m ≡ getD t (k + 2) 0 → Integers x t i n m
     unfolding listed allIntegers
     integers-turn {m} {r} l g e q =
-        record { node = p .node; left = λ v s. let u = past (p .left v s) l in let z : isIntegerValue (u .value) ≡ true = sym (g .is (u .value) (u .stands)) ∙ not-false r e in rw q (over u (rw z at (u .holds))) }
+        record {
+          node = p .node;
+          left = λ v s.
+              let u = past (p .left v s) l in
+              let z : isIntegerValue (u .value) ≡ true = sym (g .is (u .value) (u .stands)) ∙ not-false r e in
+              rw q (over u (rw z at (u .holds)));
+        }
 
     pub integers-done : n ≤ k → Gives (λ v. allIntegers (elements v)) x t i true
     unfolding listed allIntegers

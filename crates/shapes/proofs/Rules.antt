@@ -14,10 +14,10 @@ use Rattle.nodes.specs.declared.Found.the-variants.{At, Nothing}
 use Rattle.shapes.specs.Checks.{unless, isSome}
 use Rattle.shapes.specs.Says.{Needs}
 use Rattle.shapes.specs.Laws.{checking, unless-true}
-use Rattle.shapes.proofs.Parts.{or-true, or-false, integer-no, integer-is, value-null, value-integer, triple-kind, triple-array, triple-count, triple-is, vertex-array, integers-start, integers-node, integers-room, integers-less, integers-wrong, integers-turn, integers-done}
+use Rattle.shapes.proofs.Parts.{or-true, or-false, number-node, integer-no, integer-is, value-null, value-integer, triple-kind, triple-array, triple-count, triple-is, vertex-array, integers-start, integers-node, integers-room, integers-less, integers-wrong, integers-turn, integers-done}
 use Rattle.shapes.proofs.Outline.{clears-none}
-use Rattle.shapes.proofs.Triples.{small-none, small-is, plain-onward, plain-first}
-use Rattle.shapes.proofs.Both.{both-nodes}
+use Rattle.shapes.proofs.Triples.{small-none, small-is, plain-onward, plain-begin, plain-first}
+use Rattle.shapes.proofs.Both.{agree-kind, agree-is, both-nodes}
 
 -- rule 8
 module _ {x t : List ℕ} {i : ℕ} (best : ℕ) {found : Found} where
@@ -33,4 +33,34 @@ module _ {x t : List ℕ} {i : ℕ} (best : ℕ) {found : Found} where
       go v o (w, q, z) = unless-true best 8 v (ap (λ o. not (isObjectValue v) || isSome o) q ∙ or-true (not (isObjectValue v)))
 
 -- what `search` is handed to close what the functions leave
-pub ruleset shapes = (checking, need-nothing, need-found, integer-no, integer-is, value-null, value-integer, triple-kind, triple-array, triple-count, triple-is, vertex-array, integers-start, integers-node, integers-room, integers-less, integers-wrong, integers-turn, integers-done, clears-none, small-none, small-is, plain-onward, plain-first, both-nodes)
+pub ruleset shapes = (
+  checking,
+  need-nothing,
+  need-found,
+  integer-no,
+  integer-is,
+  value-null,
+  value-integer,
+  triple-kind,
+  triple-array,
+  triple-count,
+  triple-is,
+  vertex-array,
+  integers-start,
+  integers-node,
+  integers-room,
+  integers-less,
+  integers-wrong,
+  integers-turn,
+  integers-done,
+  clears-none,
+  small-none,
+  small-is,
+  plain-onward,
+  plain-begin,
+  plain-first,
+  number-node,
+  agree-kind,
+  agree-is,
+  both-nodes,
+)

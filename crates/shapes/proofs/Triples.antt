@@ -80,7 +80,7 @@ unfolding vertex isTriple eachElement forEach allIntegers
 sorted-vertex a s = rw (a, s .count, s .whole) (s .fits)
 
 -- The elements before the node k of the array at i, m of them, are short integers, and the table goes on past the array at n
-record Plain (x t : List ℕ) (i n k m : ℕ) : Type 0 where
+pub record Plain (x t : List ℕ) (i n k m : ℕ) : Type 0 where
   node : Node x t i
   array : (v : Json) → Sub x t i v → isArrayValue v ≡ true
   left : (v : Json) → Sub x t i v → Left x t k n (λ vs. Sorted v m (listed vs))
@@ -119,26 +119,26 @@ module _ {x t : List ℕ} {i : ℕ} where
   plain-done p h v s = sorted-vertex (p .array v s) (ended (p .left v s) h)
 
   -- the three numbers of an array that takes twelve words
-  module _ {b : Bool} {n : ℕ} (d : Node x t i) (g : Gives isArrayValue x t i b) (e : not b ≡ false) (q : n ≡ getD t (i + 2) 0) (h : n ≡ i + 12) where
-    first : Plain x t i (i + 12) (i + 3) 0
-    first = rw (← h) (plain-start d g e q)
+  pub plain-begin : {b : Bool} {n : ℕ} → Node x t i → Gives isArrayValue x t i b → not b ≡ false → n ≡ getD t (i + 2) 0 → n ≡ i + 12 → Plain x t i (i + 12) (i + 3) 0
+  plain-begin d g e q h = rw (← h) (plain-start d g e q)
 
+  module _ (p : Plain x t i (i + 12) (i + 3) 0) where
     pub plain-first : Node x t (i + 3)
-    plain-first = plain-node first (omega arith)
+    plain-first = plain-node p (omega arith)
 
-    module _ {r : Bool} (f : IsSmall x t (i + 3) r) (z : not r ≡ false) where
-      second : Plain x t i (i + 12) (i + 6) 1
-      second = plain-turn first (omega arith) f (not-false r z) (omega arith)
+    pub plain-one : {r : Bool} → IsSmall x t (i + 3) r → not r ≡ false → Plain x t i (i + 12) (i + 6) 1
+    plain-one {r} f z = plain-turn p (omega arith) f (not-false r z) (omega arith)
 
-      pub plain-second : Node x t (i + 6)
-      plain-second = plain-node second (omega arith)
+  module _ (p : Plain x t i (i + 12) (i + 6) 1) where
+    pub plain-second : Node x t (i + 6)
+    plain-second = plain-node p (omega arith)
 
-      module _ {r₂ : Bool} (f₂ : IsSmall x t (i + 6) r₂) (z₂ : not r₂ ≡ false) where
-        third : Plain x t i (i + 12) (i + 9) 2
-        third = plain-turn second (omega arith) f₂ (not-false r₂ z₂) (omega arith)
+    pub plain-two : {r : Bool} → IsSmall x t (i + 6) r → not r ≡ false → Plain x t i (i + 12) (i + 9) 2
+    plain-two {r} f z = plain-turn p (omega arith) f (not-false r z) (omega arith)
 
-        pub plain-third : Node x t (i + 9)
-        plain-third = plain-node third (omega arith)
+  module _ (p : Plain x t i (i + 12) (i + 9) 2) where
+    pub plain-third : Node x t (i + 9)
+    plain-third = plain-node p (omega arith)
 
-        pub plain-vertex : {r₃ : Bool} → IsSmall x t (i + 9) r₃ → Clears vertex x t i r₃
-        plain-vertex f₃ = record { none = λ z₃. plain-done {k = i + 12} (plain-turn third (omega arith) f₃ z₃ (omega arith)) (omega arith) }
+    pub plain-vertex : {r : Bool} → IsSmall x t (i + 9) r → Clears vertex x t i r
+    plain-vertex f = record { none = λ z. plain-done {k = i + 12} (plain-turn p (omega arith) f z (omega arith)) (omega arith) }

@@ -74,7 +74,8 @@ forBoth c [] ws = []
 forBoth c (v ∷ vs) [] = []
 forBoth c (v ∷ vs) (w ∷ ws) = c v w ++ forBoth c vs ws
 
--- 12: `values` has the boundary's count at each of its levels, at the array that differs; arrays above its last level and integers or null there, at the element
+-- 12: `values` has the boundary's count at each of its levels, at the array that differs;
+-- arrays above its last level and integers or null there, at the element
 unfoldable pub matches : ℕ → Json → Check
 unfolding unless isIntegerValue isNullValue isArrayValue forBoth elements
 matches zero b v = unless (isIntegerValue v || isNullValue v) 12 v

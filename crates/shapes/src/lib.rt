@@ -10,6 +10,7 @@ ghost use Rattle.shapes.specs.Checks.{objectKind, stringKind, numberKind
 ghost use Rattle.shapes.specs.Checks as checks;
 ghost use Rattle.shapes.specs.Shapes.{isIntegerValue, allIntegers, threeEntries, pairRange, isTriple};
 ghost use Rattle.shapes.specs.Shapes as shape;
+ghost use Rattle.shapes.specs.Says as says;
 ghost use Rattle.shapes.specs.Says.{Nodes, GivesTwo, GivesPair, Needs, Clears, IsSmall};
 use nodes::Found;
 use numerals::Numeral;
@@ -143,7 +144,8 @@ fn entries(text: &[u8], table: &[u32], i: usize, best: u32) -> u32
 // `scale` or `translate`: an array (7) of numbers (7), three of them (12), each a pair in range (13).
 pub fn three_pairs(text: &[u8], table: &[u32], i: usize, best: u32) -> u32
     requires { ⌜ Node (now text) (now table) i ⌝ }
-    ensures { λ r. ⌜ Gives (λ v. least best (arrayKind v ++ eachElement numberKind v ++ threeEntries v ++ eachElement pairRange v)) (now (text .entry)) (now (table .entry)) i r ⌝ }
+    ensures { λ r. ⌜ Gives (λ v. least best (arrayKind v ++ eachElement numberKind v ++ threeEntries v ++ eachElement pairRange v))
+        (now (text .entry)) (now (table .entry)) i r ⌝ }
 {
     let kind = array(text, table, i, best);
     let shape = three(text, table, i, kind);
@@ -398,6 +400,17 @@ fn is_value(text: &[u8], table: &[u32], i: usize) -> bool
     is_integer(text, table, i)
 }
 
+// Is the value at node v an array of as many elements as that at node b has?
+fn agree(text: &[u8], table: &[u32], b: usize, v: usize) -> bool
+    requires { ⌜ Nodes (now text) (now table) b v ⌝ }
+    ensures { λ r. ⌜ GivesTwo says.agree (now (text .entry)) (now (table .entry)) b v r ⌝ }
+{
+    if !nodes::is_array(text, table, v) {
+        return false;
+    }
+    nodes::count(text, table, b) == nodes::count(text, table, v)
+}
+
 // Rule 12: `values` at node v has the counts of the boundary at node b at each of its levels, and integers or null at the last.
 pub fn matches(text: &[u8], table: &[u32], b: usize, v: usize, depth: usize, best: u32) -> u32
     requires { ⌜ Nodes (now text) (now table) b v ⌝ }
@@ -406,10 +419,7 @@ pub fn matches(text: &[u8], table: &[u32], b: usize, v: usize, depth: usize, bes
     if depth == 0 {
         return unless(is_value(text, table, v), 12, text, table, v, best);
     }
-    if !nodes::is_array(text, table, v) {
-        return unless(false, 12, text, table, v, best);
-    }
-    if nodes::count(text, table, b) != nodes::count(text, table, v) {
+    if !agree(text, table, b, v) {
         return unless(false, 12, text, table, v, best);
     }
     let n = nodes::next(table, v);

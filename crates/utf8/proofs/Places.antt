@@ -36,7 +36,13 @@ module _ (text : List ℕ) where
     take-three h = rw (take-next 2 at (at + 1) refl (omega arith), take-next 1 (at + 1) (at + 2) (omega arith) (omega arith), take-next 0 (at + 2) (at + 3) (omega arith) (omega arith))
 
     take-four : 4 ≤ length text - at → take 4 (drop at text) ≡ getD text at 0 ∷ getD text (at + 1) 0 ∷ getD text (at + 2) 0 ∷ getD text (at + 3) 0 ∷ []
-    take-four h = rw (take-next 3 at (at + 1) refl (omega arith), take-next 2 (at + 1) (at + 2) (omega arith) (omega arith), take-next 1 (at + 2) (at + 3) (omega arith) (omega arith), take-next 0 (at + 3) (at + 4) (omega arith) (omega arith))
+    take-four h =
+        rw (
+          take-next 3 at (at + 1) refl (omega arith),
+          take-next 2 (at + 1) (at + 2) (omega arith) (omega arith),
+          take-next 1 (at + 2) (at + 3) (omega arith) (omega arith),
+          take-next 0 (at + 3) (at + 4) (omega arith) (omega arith),
+        )
 
     -- n bytes that are a character, or none, where the first tells of n
     found : (n : ℕ) {x : List ℕ} {r : Bool} → n < 5 → n ≤ length text - at → take n (drop at text) ≡ x → r ≡ written x → r ≡ true → n ≡ size (drop at text)

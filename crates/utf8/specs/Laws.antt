@@ -204,7 +204,8 @@ positive s (suc n) e = omega arith
 -- no more bytes are counted than there are
 size-bound : {s : List ℕ} {m : ℕ} → Sized s m → m ≤ length s
 size-bound (none b) = omega arith
-size-bound {s} {m} (some k b f) = ⊎-elim (λ p. absurd (never f (rw (take-all m s (omega arith), ← take-length s) (b (length s) p)))) (λ p. p) (below-or-not (length s) m)
+size-bound {s} {m} (some k b f) =
+    ⊎-elim (λ p. absurd (never f (rw (take-all m s (omega arith), ← take-length s) (b (length s) p)))) (λ p. p) (below-or-not (length s) m)
 
 pub size-within : (s : List ℕ) → size s ≤ length s
 size-within s = size-bound (sized s)

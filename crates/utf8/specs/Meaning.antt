@@ -28,7 +28,10 @@ goes-on t h g =
     let w = size-written t h in
     record {
       within = omega (arith, e, g .within, length-drop n t, size-within t);
-      whole = rw e (next (number (take n t)) (written-character (take n t) w) (take-add n (wholeLength (drop n t)) t ∙ ap (λ x. x ++ take (wholeLength (drop n t)) (drop n t)) (sym (written-bytes (take n t) w))) (g .whole));
+      whole =
+          rw e
+          (next (number (take n t)) (written-character (take n t) w)
+          (take-add n (wholeLength (drop n t)) t ∙ ap (λ x. x ++ take (wholeLength (drop n t)) (drop n t)) (sym (written-bytes (take n t) w))) (g .whole));
     }
 
 good : (f : ℕ) (t : List ℕ) → length t ≤ f → Good t

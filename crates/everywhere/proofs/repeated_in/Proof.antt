@@ -4,7 +4,6 @@ use mathlib.Core.Path.{_≡_}
 use native.Mathlib.Omega.{arith}
 use lib.ListN.{length}
 use Rattle.nodes.specs.Walks.{walk-room}
-use Rattle.everywhere.proofs.Rule5.{any-third}
 use Rattle.everywhere.proofs.Rule6.{Sweeps, Any, sweeps}
 use Rattle.everywhere.proofs.repeated_in.Statement.{statement}
 use Rattle.everywhere.proofs.repeated_in.Tie as tie
@@ -15,14 +14,8 @@ Inv-loop text table links₀ i best at n first least₀ seen₀ k₀ links least
 abbrev μ-loop : tie.MeasureT-loop
 μ-loop text table links₀ i best at n first least₀ seen₀ k₀ links least seen k = n - k
 
-add-first : tie.Need-add-first Inv-loop μ-loop
-add-first c = omega (arith, any-third (c .before .before .before .before .before .before .pre .0))
-
 add-seen : tie.Need-add-seen Inv-loop μ-loop
 add-seen c = let i = c .before .before .before .loop .inv in omega (arith, walk-room (i .0 .walk) (c .before .before .loop-test .taken), i .2)
-
-add-next : tie.Need-add-next Inv-loop μ-loop
-add-next c = omega (arith, walk-room (c .before .before .before .loop .inv .0 .walk) (c .before .before .loop-test .taken))
 
 pub repeated-in-spec : {M : Type 1} → statement M
 repeated-in-spec =
@@ -34,13 +27,13 @@ repeated-in-spec =
     (λ c. search sweeps)
     (λ c. search sweeps)
     (λ c κs. search sweeps)
-    add-first
+    (λ c. search sweeps)
     (λ c. search sweeps)
     (λ c κs. search sweeps)
     (λ c. search sweeps)
     (λ c κs. search sweeps)
     add-seen
-    add-next
+    (λ c. search sweeps)
     (λ c κs. walk-room (c .before .before .before .loop .inv .0 .walk) (c .before .before .loop-test .taken))
     (λ c. search sweeps)
     (λ c. search sweeps)

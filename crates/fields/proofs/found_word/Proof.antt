@@ -4,7 +4,7 @@ use Rattle.fields.proofs.found_word.Statement.{statement}
 use Rattle.fields.proofs.found_word.Tie as tie
 
 returns : tie.Need-returns
-returns c = word-nothing _ (c .before .before .before .before .before .pre .1) (c .enum-told .given .1)
+returns c = word-nothing _ (search) (c .enum-told .given .1)
 
 returns-2 : tie.Need-returns-2
 returns-2 c = word-at _ (c .before .before .found .given .1) (c .is-word .ensures)

@@ -1,7 +1,6 @@
 -- `nodes::count` meets its contract.
 use Prim.Native.Nat.{_-_}
 use native.Mathlib.Omega.{arith}
-use Rattle.nodes.specs.Walks.{node-room}
 use Rattle.nodes.proofs.Loops.{Counts, count-fits, loops}
 use Rattle.nodes.proofs.count.Statement.{statement}
 use Rattle.nodes.proofs.count.Tie as tie
@@ -11,9 +10,6 @@ Inv-loop text table i n k₀ found₀ k found = Counts text table i n k found
 
 abbrev μ-loop : tie.MeasureT-loop
 μ-loop text table i n k₀ found₀ k found = n - k
-
-add-k : tie.Need-add-k Inv-loop μ-loop
-add-k c = omega (arith, node-room (c .before .before .before .before .before .pre))
 
 add-found : tie.Need-add-found Inv-loop μ-loop
 add-found c = omega (arith, count-fits (c .before .loop .inv) (c .loop-test .taken))
@@ -27,7 +23,7 @@ count-spec =
     (λ c κs. search loops)
     (λ c. search loops)
     (λ c κs. search loops)
-    add-k
+    (λ c. search loops)
     (λ c. search loops)
     add-found
     (λ c κs. search loops)

@@ -1,7 +1,5 @@
 -- `nodes::member` meets its contract.
 use Prim.Native.Nat.{_-_}
-use native.Mathlib.Omega.{arith}
-use Rattle.nodes.specs.Walks.{node-room, walk-fits, walk-room}
 use Rattle.nodes.proofs.Loops.{Searches, member-none, member-found, member-done, loops}
 use Rattle.nodes.proofs.member.Statement.{statement}
 use Rattle.nodes.proofs.member.Tie as tie
@@ -15,20 +13,10 @@ abbrev μ-loop : tie.MeasureT-loop
 returns : tie.Need-returns Inv-loop μ-loop
 returns c = member-none _ (c .before .is-object .ensures) (c .if1 .taken)
 
-add-key : tie.Need-add-key Inv-loop μ-loop
-add-key c = omega (arith, node-room (c .before .before .before .before .before .before .pre))
-
-add-is-word : tie.Need-add-is-word Inv-loop μ-loop
-add-is-word c = omega (arith, walk-fits (c .before .before .before .loop .inv .walk) (c .before .before .loop-test .taken) (c .before .start .ensures))
-
-add-t15 : tie.Need-add-t15 Inv-loop μ-loop
-add-t15 c = omega (arith, walk-room (c .before .before .before .before .before .loop .inv .walk) (c .before .before .before .before .loop-test .taken))
-
 returns-2 : tie.Need-returns-2 Inv-loop μ-loop
-returns-2 c = member-found (c .before .before .before .before .before .loop .inv) (c .before .before .before .before .loop-test .taken) (c .before .before .before .start .ensures) (c .before .before .end .ensures) (c .before .is-word .ensures) (c .if2 .taken)
-
-add-next : tie.Need-add-next Inv-loop μ-loop
-add-next c = omega (arith, walk-room (c .before .before .before .before .before .loop .inv .walk) (c .before .before .before .before .loop-test .taken))
+returns-2 c =
+    member-found (search) (c .before .before .before .before .loop-test .taken) (c .before .before .before .start .ensures)
+    (c .before .before .end .ensures) (c .before .is-word .ensures) (c .if2 .taken)
 
 returns-3 : tie.Need-returns-3 Inv-loop μ-loop
 returns-3 c = member-done (c .before .loop .inv) (c .loop-test .left)
@@ -42,16 +30,16 @@ member-spec =
     (λ c κs. search loops)
     returns
     (λ c κs. search loops)
-    add-key
+    (λ c. search loops)
     (λ c. search loops)
     (λ c κs. search loops)
     (λ c κs. search loops)
-    add-is-word
+    (λ c. search loops)
     (λ c. search loops)
     (λ c κs. search loops)
-    add-t15
+    (λ c. search loops)
     returns-2
-    add-next
+    (λ c. search loops)
     (λ c κs. search loops)
     (λ c. search loops)
     (λ c. search loops)

@@ -66,7 +66,19 @@ returns-13 : tie.Need-returns-13
 unfolding ruleNumber
 returns-13 c =
     let k = c .match .rest in
-    last _ (past 16 _ (past 15 _ (past 14 _ (past 13 _ (past 12 _ (past 11 _ (past 10 _ (past 9 _ (past 8 _ (past 7 _ (past 6 _ (past 5 _ (c .before .pre .0) (k .0 .0 .0 .0 .0 .0 .0 .0 .0 .0 .0 .1)) (k .0 .0 .0 .0 .0 .0 .0 .0 .0 .0 .1)) (k .0 .0 .0 .0 .0 .0 .0 .0 .0 .1)) (k .0 .0 .0 .0 .0 .0 .0 .0 .1)) (k .0 .0 .0 .0 .0 .0 .0 .1)) (k .0 .0 .0 .0 .0 .0 .1)) (k .0 .0 .0 .0 .0 .1)) (k .0 .0 .0 .0 .1)) (k .0 .0 .0 .1)) (k .0 .0 .1)) (k .0 .1)) (k .1)) (c .before .pre .1)
+    let past-5 = past 5 _ (c .before .pre .0) (k .0 .0 .0 .0 .0 .0 .0 .0 .0 .0 .0 .1) in
+    let past-6 = past 6 _ past-5 (k .0 .0 .0 .0 .0 .0 .0 .0 .0 .0 .1) in
+    let past-7 = past 7 _ past-6 (k .0 .0 .0 .0 .0 .0 .0 .0 .0 .1) in
+    let past-8 = past 8 _ past-7 (k .0 .0 .0 .0 .0 .0 .0 .0 .1) in
+    let past-9 = past 9 _ past-8 (k .0 .0 .0 .0 .0 .0 .0 .1) in
+    let past-10 = past 10 _ past-9 (k .0 .0 .0 .0 .0 .0 .1) in
+    let past-11 = past 11 _ past-10 (k .0 .0 .0 .0 .0 .1) in
+    let past-12 = past 12 _ past-11 (k .0 .0 .0 .0 .1) in
+    let past-13 = past 13 _ past-12 (k .0 .0 .0 .1) in
+    let past-14 = past 14 _ past-13 (k .0 .0 .1) in
+    let past-15 = past 15 _ past-14 (k .0 .1) in
+    let past-16 = past 16 _ past-15 (k .1) in
+    last _ past-16 (c .before .pre .1)
 
 pub rule-of-spec : {M : Type 1} → statement M
 rule-of-spec =

@@ -55,7 +55,12 @@ module _ (t : ℕ) where
       (c .next2 .ensures)
 
   returns-3 : lts.Need-returns-3 (calls t) (now-at t) boundary.Post Inv μ-loop
-  returns-3 c = boundary-yes _ _ _ (c .before .before .before .before .before .if1 .left) (c .before .before .before .before .is-array .ensures) (c .before .before .before .if2 .left) (pass-done (c .before .loop .inv) (c .loop-test .left))
+  returns-3 c = boundary-yes _ _ _ (search) (c .before .before .before .before .is-array .ensures) (c .before .before .before .if2 .left) (pass-done (c .before .loop .inv) (c .loop-test .left))
 
 pub +boundary-spec : {M : Type 1} → statement M
-+boundary-spec = close μ λ t. lts.spec (calls t) (now-at t) boundary.Post Inv μ-loop (λ c κs. search shapes) (returns t) (λ c κs. search shapes) (λ c κs. search shapes) (returns-2 t) (λ c κs. search shapes) (λ c. search shapes) (λ c. search shapes) (λ c κs. search shapes) (λ c. search shapes) (λ c κs. search shapes) (λ c κs. search shapes) (λ c. search shapes) (loop-again t) (returns-3 t)
++boundary-spec =
+    close μ
+    λ t.
+    lts.spec (calls t) (now-at t) boundary.Post Inv μ-loop (λ c κs. search shapes) (returns t) (λ c κs. search shapes) (λ c κs. search shapes) (returns-2 t)
+    (λ c κs. search shapes) (λ c. search shapes) (λ c. search shapes) (λ c κs. search shapes) (λ c. search shapes) (λ c κs. search shapes)
+    (λ c κs. search shapes) (λ c. search shapes) (loop-again t) (returns-3 t)

@@ -3,15 +3,14 @@ use Prim.Native.Nat.{ℕ, _-_, _<_}
 use borrow.Fn.Kinds.{In}
 use borrow.Fn.PlainCycle.{Measures, is, falls, and}
 use Rattle.shapes.specs.Shapes as shape
-use Rattle.shapes.proofs.Both.{Both, both-begin, both-first, both-second, both-less, both-turn, matches-leaf, matches-kind, matches-count, matches-each, both-done}
+use Rattle.shapes.proofs.Both.{Both, both-begin, both-first, both-second, both-less, both-turn, matches-leaf, matches-unlike, matches-each}
 use Rattle.shapes.proofs.Rules.{shapes}
 use Rattle.shapes.proofs.matches.Reads as matches
 use Rattle.shapes.proofs.matches.Kinds as kinds
 use Rattle.shapes.proofs.+matches.Lts-matches as lts
 use Rattle.shapes.proofs.is_value.Reads as is-value-reads
 use Rattle.shapes.proofs.unless.Reads as unless-reads
-use Rattle.nodes.proofs.is_array.Reads as is-array-reads
-use Rattle.nodes.proofs.count.Reads as count-reads
+use Rattle.shapes.proofs.agree.Reads as agree-reads
 use Rattle.nodes.proofs.next.Reads as next-reads
 use Rattle.shapes.proofs.+matches.{statement}
 use Rattle.shapes.proofs.+matches.Tie.{close}
@@ -27,7 +26,7 @@ below t = and 2 kinds.ps (falls 2 kinds.ps _<_ μ t) matches.Pre
 
 -- what is known of the functions that it calls
 abbrev calls : ℕ → lts.Claims
-calls t = (is-value-reads.Asked, is-value-reads.Learnt, unless-reads.Asked, unless-reads.Learnt, is-array-reads.Asked, is-array-reads.Learnt, count-reads.Asked, count-reads.Learnt, next-reads.Asked, next-reads.Learnt, below t, matches.Post)
+calls t = (is-value-reads.Asked, is-value-reads.Learnt, unless-reads.Asked, unless-reads.Learnt, agree-reads.Asked, agree-reads.Learnt, next-reads.Asked, next-reads.Learnt, below t, matches.Post)
 
 abbrev Inv : lts.InvT-loop
 Inv text table b v depth best n least₀ j₀ k₀ least j k = Both (shape.matches (depth - 1)) text table b v best n j k least
@@ -40,13 +39,10 @@ module _ (t : ℕ) where
   returns c = matches-leaf _ _ (c .before .before .if1 .taken) (c .before .is-value .ensures) (c .unless .ensures)
 
   returns-2 : lts.Need-returns-2 (calls t) (now-at t) matches.Post Inv μ-loop
-  returns-2 c = matches-kind _ _ (c .before .before .before .if1 .left) (c .before .before .is-array .ensures) (c .before .if2 .taken) (c .unless2 .ensures)
-
-  returns-3 : lts.Need-returns-3 (calls t) (now-at t) matches.Post Inv μ-loop
-  returns-3 c = matches-count _ _ (c .before .before .before .before .before .before .if1 .left) (c .before .before .before .before .before .is-array .ensures) (c .before .before .before .before .if2 .left) (c .before .before .before .count .ensures) (c .before .before .count2 .ensures) (c .before .if3 .taken) (c .unless3 .ensures)
+  returns-2 c = matches-unlike _ _ (c .before .before .before .if1 .left) (c .before .before .agree .ensures) (c .before .if2 .taken) (c .unless2 .ensures)
 
   loop-holds : lts.Need-loop-holds (calls t) (now-at t) matches.Post Inv μ-loop
-  loop-holds c = both-begin (search shapes) (c .before .before .before .before .before .is-array .ensures) (c .before .before .before .before .if2 .left) (c .before .before .before .count .ensures) (c .before .before .count2 .ensures) (c .before .if3 .left) (c .next .ensures)
+  loop-holds c = both-begin (search) (c .before .before .agree .ensures) (c .before .if2 .left) (c .next .ensures)
 
   next-requires-2 : lts.Need-next-requires-2 (calls t) (now-at t) matches.Post Inv μ-loop
   next-requires-2 c κs = both-first (c .before .before .loop .inv) (c .before .loop-test .taken)
@@ -58,10 +54,38 @@ module _ (t : ℕ) where
   loop-less c = both-less (c .before .before .before .before .loop .inv) (c .before .before .before .loop-test .taken) (c .next3 .ensures)
 
   loop-again : lts.Need-loop-again (calls t) (now-at t) matches.Post Inv μ-loop
-  loop-again c = both-turn (c .before .before .before .before .loop .inv) (c .before .before .before .loop-test .taken) (c .before .before .matches .ensures) (c .before .next2 .ensures) (c .next3 .ensures)
+  loop-again c =
+      both-turn (c .before .before .before .before .loop .inv) (c .before .before .before .loop-test .taken) (c .before .before .matches .ensures)
+      (c .before .next2 .ensures) (c .next3 .ensures)
 
-  returns-4 : lts.Need-returns-4 (calls t) (now-at t) matches.Post Inv μ-loop
-  returns-4 c = matches-each _ _ (c .before .before .before .before .before .before .before .before .if1 .left) (c .before .before .before .before .before .before .before .is-array .ensures) (c .before .before .before .before .before .before .if2 .left) (c .before .before .before .before .before .count .ensures) (c .before .before .before .before .count2 .ensures) (c .before .before .before .if3 .left) (both-done (c .before .loop .inv) (c .loop-test .left))
+  returns-3 : lts.Need-returns-3 (calls t) (now-at t) matches.Post Inv μ-loop
+  returns-3 c = matches-each _ _ (search) (c .before .loop .inv) (c .loop-test .left)
 
 pub +matches-spec : {M : Type 1} → statement M
-+matches-spec = close μ λ t. lts.spec (calls t) (now-at t) matches.Post Inv μ-loop (λ c κs. search shapes) (λ c κs. search shapes) (returns t) (λ c κs. search shapes) (λ c κs. search shapes) (returns-2 t) (λ c κs. search shapes) (λ c κs. search shapes) (λ c κs. search shapes) (returns-3 t) (λ c κs. search shapes) (λ c. search shapes) (λ c. search shapes) (loop-holds t) (λ c. search shapes) (λ c κs. search shapes) (next-requires-2 t) (next-requires-3 t) (loop-less t) (loop-again t) (returns-4 t)
++matches-spec =
+    close
+    μ
+    λ t.
+    lts.spec
+    (calls t)
+    (now-at t)
+    matches.Post
+    Inv
+    μ-loop
+    (λ c κs. search shapes)
+    (λ c κs. search shapes)
+    (returns t)
+    (λ c κs. search shapes)
+    (λ c κs. search shapes)
+    (returns-2 t)
+    (λ c κs. search shapes)
+    (λ c. search shapes)
+    (λ c. search shapes)
+    (loop-holds t)
+    (λ c. search shapes)
+    (λ c κs. search shapes)
+    (next-requires-2 t)
+    (next-requires-3 t)
+    (loop-less t)
+    (loop-again t)
+    (returns-3 t)

@@ -42,7 +42,12 @@ module _ (t : ℕ) where
   returns-2 c = ranged-deep _ _ _ (c .before .before .if1 .left) (pass-none _ _ (c .before .is-array .ensures) (c .if2 .taken))
 
   returns-3 : lts.Need-returns-3 (calls t) (now-at t) ranged.Post Inv μ-loop
-  returns-3 c = ranged-deep _ _ _ (c .before .before .before .before .before .if1 .left) (pass-done (c .before .loop .inv) (c .loop-test .left))
+  returns-3 c = ranged-deep _ _ _ (search) (pass-done (c .before .loop .inv) (c .loop-test .left))
 
 pub +ranged-spec : {M : Type 1} → statement M
-+ranged-spec = close μ λ t. lts.spec (calls t) (now-at t) ranged.Post Inv μ-loop (λ c κs. search shapes) (returns t) (λ c κs. search shapes) (returns-2 t) (λ c κs. search shapes) (λ c. search shapes) (λ c. search shapes) (λ c. search shapes) (λ c κs. search shapes) (λ c κs. search shapes) (λ c. search shapes) (λ c. search shapes) (returns-3 t)
++ranged-spec =
+    close μ
+    λ t.
+    lts.spec (calls t) (now-at t) ranged.Post Inv μ-loop (λ c κs. search shapes) (returns t) (λ c κs. search shapes) (returns-2 t) (λ c κs. search shapes)
+    (λ c. search shapes) (λ c. search shapes) (λ c. search shapes) (λ c κs. search shapes) (λ c κs. search shapes) (λ c. search shapes) (λ c. search shapes)
+    (returns-3 t)

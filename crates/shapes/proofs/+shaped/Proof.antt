@@ -27,7 +27,18 @@ below t = and 2 kinds.ps (falls 2 kinds.ps _<_ μ t) shaped.Pre
 
 -- what is known of the functions that it calls
 abbrev calls : ℕ → lts.Claims
-calls t = (is-integer-reads.Asked, is-integer-reads.Learnt, unless-reads.Asked, unless-reads.Learnt, is-array-reads.Asked, is-array-reads.Learnt, next-reads.Asked, next-reads.Learnt, below t, shaped.Post)
+calls t = (
+  is-integer-reads.Asked,
+  is-integer-reads.Learnt,
+  unless-reads.Asked,
+  unless-reads.Learnt,
+  is-array-reads.Asked,
+  is-array-reads.Learnt,
+  next-reads.Asked,
+  next-reads.Learnt,
+  below t,
+  shaped.Post,
+)
 
 abbrev Inv : lts.InvT-loop
 Inv text table i depth best n least₀ k₀ least k = Pass (shape.shaped (depth - 1)) text table i best n k least
@@ -43,7 +54,12 @@ module _ (t : ℕ) where
   returns-2 c = shaped-no _ _ (c .before .before .before .if1 .left) (c .before .before .is-array .ensures) (c .before .if2 .taken) (c .unless2 .ensures)
 
   returns-3 : lts.Need-returns-3 (calls t) (now-at t) shaped.Post Inv μ-loop
-  returns-3 c = shaped-yes _ _ (c .before .before .before .before .before .if1 .left) (c .before .before .before .before .is-array .ensures) (c .before .before .before .if2 .left) (pass-done (c .before .loop .inv) (c .loop-test .left))
+  returns-3 c = shaped-yes _ _ (search) (c .before .before .before .before .is-array .ensures) (c .before .before .before .if2 .left) (pass-done (c .before .loop .inv) (c .loop-test .left))
 
 pub +shaped-spec : {M : Type 1} → statement M
-+shaped-spec = close μ λ t. lts.spec (calls t) (now-at t) shaped.Post Inv μ-loop (λ c κs. search shapes) (λ c κs. search shapes) (returns t) (λ c κs. search shapes) (λ c κs. search shapes) (returns-2 t) (λ c κs. search shapes) (λ c. search shapes) (λ c. search shapes) (λ c. search shapes) (λ c κs. search shapes) (λ c κs. search shapes) (λ c. search shapes) (λ c. search shapes) (returns-3 t)
++shaped-spec =
+    close μ
+    λ t.
+    lts.spec (calls t) (now-at t) shaped.Post Inv μ-loop (λ c κs. search shapes) (λ c κs. search shapes) (returns t) (λ c κs. search shapes)
+    (λ c κs. search shapes) (returns-2 t) (λ c κs. search shapes) (λ c. search shapes) (λ c. search shapes) (λ c. search shapes) (λ c κs. search shapes)
+    (λ c κs. search shapes) (λ c. search shapes) (λ c. search shapes) (returns-3 t)

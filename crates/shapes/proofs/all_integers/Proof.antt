@@ -12,4 +12,7 @@ abbrev μ-loop : tie.MeasureT-loop
 μ-loop text table i n k₀ k = n - k
 
 pub all-integers-spec : {M : Type 1} → statement M
-all-integers-spec = tie.close (tie.spec Inv-loop μ-loop (λ c κs. search shapes) (λ c. search shapes) (λ c. search shapes) (λ c κs. search shapes) (λ c. search shapes) (λ c κs. search shapes) (λ c. search shapes) (λ c. search shapes) (λ c. search shapes))
+all-integers-spec =
+    tie.close
+    (tie.spec Inv-loop μ-loop (λ c κs. search shapes) (λ c. search shapes) (λ c. search shapes) (λ c κs. search shapes) (λ c. search shapes)
+    (λ c κs. search shapes) (λ c. search shapes) (λ c. search shapes) (λ c. search shapes))

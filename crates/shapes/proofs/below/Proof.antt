@@ -8,7 +8,7 @@ returns : tie.Need-returns
 returns c = below-none _ _ (c .before .is-number .ensures) (c .if1 .taken)
 
 returns-2 : tie.Need-returns-2
-returns-2 c = below-is _ _ (c .before .before .before .before .before .is-number .ensures) (c .before .before .before .before .if1 .left) (c .before .before .before .start .ensures) (c .before .before .end .ensures) (c .before .is-below .ensures) (c .unless .ensures)
+returns-2 c = below-is _ _ (search shapes) (c .before .before .before .start .ensures) (c .before .before .end .ensures) (c .before .is-below .ensures) (c .unless .ensures)
 
 pub below-spec : {M : Type 1} → statement M
 below-spec = tie.close (tie.spec (λ c κs. search shapes) returns (λ c κs. search shapes) (λ c κs. search shapes) (λ c κs. search shapes) (λ c κs. search shapes) returns-2)

@@ -8,7 +8,7 @@ returns : tie.Need-returns
 returns c = coordinate-none _ (c .before .is-number .ensures) (c .if1 .taken)
 
 returns-2 : tie.Need-returns-2
-returns-2 c = coordinate-is _ (c .before .before .before .before .before .is-number .ensures) (c .before .before .before .before .if1 .left) (c .before .before .before .start .ensures) (c .before .before .end .ensures) (c .before .fits-32 .ensures) (c .unless .ensures)
+returns-2 c = coordinate-is _ (search shapes) (c .before .before .before .start .ensures) (c .before .before .end .ensures) (c .before .fits-32 .ensures) (c .unless .ensures)
 
 pub coordinate-spec : {M : Type 1} → statement M
 coordinate-spec = tie.close (tie.spec (λ c κs. search shapes) returns (λ c κs. search shapes) (λ c κs. search shapes) (λ c κs. search shapes) (λ c κs. search shapes) returns-2)

@@ -16,4 +16,7 @@ returns : tie.Need-returns Inv-loop μ-loop
 returns c = pass-done (c .before .loop .inv) (c .loop-test .left)
 
 pub coordinates-spec : {M : Type 1} → statement M
-coordinates-spec = tie.close (tie.spec Inv-loop μ-loop (λ c κs. search shapes) (λ c. search shapes) (λ c. search shapes) (λ c κs. search shapes) (λ c κs. search shapes) (λ c. search shapes) (λ c. search shapes) returns)
+coordinates-spec =
+    tie.close
+    (tie.spec Inv-loop μ-loop (λ c κs. search shapes) (λ c. search shapes) (λ c. search shapes) (λ c κs. search shapes) (λ c κs. search shapes)
+    (λ c. search shapes) (λ c. search shapes) returns)

@@ -21,4 +21,7 @@ unfolding arrayKind
 returns-2 c = kind-yes _ 7 (eachElement vertex) (c .before .before .before .before .is-array .ensures) (c .before .before .before .if1 .left) (pass-done (c .before .loop .inv) (c .loop-test .left))
 
 pub vertices-spec : {M : Type 1} → statement M
-vertices-spec = tie.close (tie.spec Inv-loop μ-loop (λ c κs. search shapes) (λ c κs. search shapes) returns (λ c κs. search shapes) (λ c. search shapes) (λ c. search shapes) (λ c κs. search shapes) (λ c κs. search shapes) (λ c. search shapes) (λ c. search shapes) returns-2)
+vertices-spec =
+    tie.close
+    (tie.spec Inv-loop μ-loop (λ c κs. search shapes) (λ c κs. search shapes) returns (λ c κs. search shapes) (λ c. search shapes) (λ c. search shapes)
+    (λ c κs. search shapes) (λ c κs. search shapes) (λ c. search shapes) (λ c. search shapes) returns-2)
