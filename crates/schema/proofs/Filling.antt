@@ -5,7 +5,7 @@ use native.Mathlib.Decide.{decLt}
 use mathlib.Core.Path.{_≡_, refl, sym, ap, _∙_, subst}
 use mathlib.Core.Logic.{_≢_}
 use mathlib.Core.Bool.{Bool, true, false, not}
-use mathlib.Core.Option.{Option, none}
+use mathlib.Core.Option.{Option, none, some}
 use borrow.Author.Tests.{not-true, not-false}
 use mathlib.Core.List.{List, [], _∷_, _++_, append-assoc, append-nil}
 use lib.ListN.{length, getD, set, drop, replicate, length-append, length-set, List·getD-append, drop-of-length-le}
@@ -13,21 +13,22 @@ use lib.Seq.{drop-at, getD-set-same, getD-set-other, getD-append-seam}
 use Rattle.json.specs.Tree.{Json}
 use Rattle.json.specs.Table.{Sub}
 use Rattle.json.specs.Laws.{MembersLeft, MemberPast, member-past, member-over, members-ended}
-use Rattle.nodes.specs.Access.{isObjectValue, Member, pairs, members, find}
-use Rattle.nodes.specs.Says.{Node, Gives, GivesFound, Finds, Seeks}
+use Rattle.utf8.specs.Ascii.{ascii}
+use Rattle.nodes.specs.Access.{isObjectValue, Member, pairs, members, firstNamed, find}
+use Rattle.nodes.specs.Says.{Node, Gives, Finds, Seeks}
 use Rattle.nodes.specs.Faults.{fault, least}
 use Rattle.nodes.specs.Laws.{StringAt, quoted-at, quoted-place, fields-begin, no-members, fresh-zero, fresh-length}
 use Rattle.nodes.specs.declared.Found.{Found}
 use Rattle.nodes.specs.declared.Found.the-variants.{At, Nothing}
 use Rattle.fields.specs.Says.{MemberAt, Indexed}
-use Rattle.shapes.specs.Checks.{Check, all, on, at, needs, objectKind, eachMember}
-use Rattle.shapes.specs.Says.{Needs}
-use Rattle.shapes.specs.Laws.{all-none, all-then, needs-none, needs-then, members-none, unless-told, unless-yes}
-use Rattle.fields.specs.Fields.{membersIn, countIn, objectsOf}
+use Rattle.shapes.specs.Checks.{objectKind, eachMember}
+use Rattle.shapes.specs.Laws.{all-none, all-then, members-none, unless-told, unless-yes}
+use Rattle.fields.specs.Fields.{membersIn, objectsOf}
+use Rattle.fields.specs.Laws.{at-room, at-onward}
 use Rattle.fields.specs.declared.Index.{Index}
-use Rattle.schema.specs.Schema.{nameFault, objectLimit, cityObject, cityObjects, word, transform, vertices, cityJson}
-use Rattle.schema.proofs.Objects.{at-gives}
-use Rattle.schema.specs.Says.{ObjectNode, Extra, Named, FillsAt, IndexedFound, IndexedAt}
+use Rattle.schema.specs.Schema.{nameFault, objectLimit, cityObject, cityObjects}
+use Rattle.schema.proofs.Lines.{lines, checked}
+use Rattle.schema.specs.Says.{Checked, ObjectNode, Extra, Named, Limited, ExtraAt, ExtraFound, FillsAt, Fills, IndexedAt}
 
 -- the members before the node k, which the first words of the index name
 pub record Done (x t offsets : List ℕ) (n k count : ℕ) (v : Json) : Type 0 where
@@ -55,8 +56,8 @@ front x t offsets count l done m rest e many h room each clear = record {
   rest = clear;
 }
 
-pub fill-begin : {x t : List ℕ} {i n : ℕ} (offsets : List ℕ) → offsets ≡ replicate 1024 0 → ObjectNode x t i → n ≡ getD t (i + 2) 0 → Filling x t i n (i + 3) offsets 0
-fill-begin offsets l d q = record {
+pub fill-begin : {x t : List ℕ} {i n : ℕ} {offsets : List ℕ} → offsets ≡ replicate 1024 0 → ObjectNode x t i → n ≡ getD t (i + 2) 0 → Filling x t i n (i + 3) offsets 0
+fill-begin l d q = record {
   node = d .node;
   room = fresh-length 1024 l;
   few = omega arith;
@@ -96,19 +97,21 @@ module _ {x t : List ℕ} {i n k : ℕ} {offsets : List ℕ} {count : ℕ} (f : 
             each = λ j e r. at j e r (decLt j count);
           }
         where
-          at : (j : ℕ) (e : Member) → j < count + 1 → Dec (j < count) → MemberAt x t (getD (set offsets count k) j 0) (getD (d .done ++ ((member-past (d .left) l .key, member-past (d .left) l .value) ∷ [])) j e)
+          at : (j : ℕ) (e : Member) → j < count + 1 → Dec (j < count)
+              → MemberAt x t (getD (set offsets count k) j 0) (getD (d .done ++ ((member-past (d .left) l .key, member-past (d .left) l .value) ∷ [])) j e)
           at j e r (yes w) =
               let z : j ≢ count = λ y. omega arith in
               rw (getD-set-other offsets count j k 0 z, List·getD-append (d .done) ((member-past (d .left) l .key, member-past (d .left) l .value) ∷ []) e j (omega (arith, d .many))) (d .each j e w)
           at j e r (no w) =
               let y : j ≡ count = omega arith in
               let u = member-past (d .left) l in
-              rw (y, getD-set-same offsets count k 0 (omega (arith, f .room, f .few)), sym (d .many), getD-append-seam (d .done) (u .key, u .value) [] e) (record { name = u .quoted; value = u .stands })
+              rw (y, getD-set-same offsets count k 0 (omega (arith, f .room, f .few)), sym (d .many), getD-append-seam (d .done) (u .key, u .value) [] e)
+              (record { name = u .quoted; value = u .stands })
 
   -- the 1,025th member
   pub fill-stop : k < n → count ≡ 1024 → FillsAt x t i (record { offsets = offsets; count = count }) (At k)
   unfolding pairs Extra
-  fill-stop l h = record { indexed = λ v s. all v (f .left v s); more = λ v s. next v (f .left v s) }
+  fill-stop l h = record { indexed = λ v s. all v (f .left v s); more = record { is = λ v s. next v (f .left v s) } }
     where
       all : (v : Json) → Done x t offsets n k count v → Indexed x t (members v) (record { offsets = offsets; count = count })
       all v d = let u = member-past (d .left) l in front x t offsets count (members v) (d .done) (u .key, u .value) (pairs (u .others)) (u .holds) (d .many) h (f .room) (d .each) (f .clear)
@@ -122,7 +125,7 @@ module _ {x t : List ℕ} {i n k : ℕ} {offsets : List ℕ} {count : ℕ} (f : 
   -- no more members
   pub fill-done : n ≤ k → FillsAt x t i (record { offsets = offsets; count = count }) Nothing
   unfolding pairs Extra
-  fill-done l = record { indexed = λ v s. all v (f .left v s); more = λ v s. next v (f .left v s) }
+  fill-done l = record { indexed = λ v s. all v (f .left v s); more = record { is = λ v s. next v (f .left v s) } }
     where
       whole : (v : Json) (d : Done x t offsets n k count v) → members v ≡ d .done
       whole v d = members-ended (d .left) l ∙ append-nil (d .done)
@@ -136,9 +139,9 @@ module _ {x t : List ℕ} {i n k : ℕ} {offsets : List ℕ} {count : ℕ} (f : 
 -- ---- rule 9
 
 -- nothing is too many
-pub few-enough : (x t : List ℕ) (best : ℕ) {extra : Found} → extra ≡ Nothing → (ms : List Member) → Extra x t ms extra → best ≡ least best (nameFault ms)
+pub few-enough : {x t : List ℕ} {best : ℕ} {extra : Found} → extra ≡ Nothing → Limited x t extra best best
 unfolding Extra nameFault least
-few-enough x t best e ms h = let z : ms ≡ [] = subst (Extra x t ms) e h in rw z
+few-enough {x} {t} e = record { is = λ ms h. let z : ms ≡ [] = subst (Extra x t ms) e h in rw z }
 
 module _ {x t : List ℕ} {k : ℕ} {extra : Found} (n : Named x t extra) (e : extra ≡ At k) where
   named : (m : Member) × StringAt x t k (m .0 .raw)
@@ -151,11 +154,10 @@ module _ {x t : List ℕ} {k : ℕ} {extra : Found} (n : Named x t extra) (e : e
   pub name-low : {p : ℕ} → p ≡ getD t k 0 → p ≤ 65535
   name-low q = omega (arith, named .1 .fits, n .short)
 
-pub one-more : (x t : List ℕ) (best : ℕ) {k p f r : ℕ} {extra : Found} → extra ≡ At k → p ≡ getD t k 0 → f ≡ fault 9 p → r ≡ min best f → (ms : List Member) → Extra x t ms extra → r ≡ least best (nameFault ms)
+pub one-more : {x t : List ℕ} {best k p f r : ℕ} {extra : Found} → extra ≡ At k → p ≡ getD t k 0 → f ≡ fault 9 p → r ≡ min best f → Limited x t extra best r
 unfolding Extra nameFault least
-one-more x t best e q g h ms d =
-    let (m, rest, z, a) : Extra x t ms (At _) = subst (Extra x t ms) e d in
-    rw (z, quoted-place (a .name), sym q, sym g) h
+one-more {x} {t} e q g h =
+    record { is = λ ms d. let (m, rest, z, a) : Extra x t ms (At _) = subst (Extra x t ms) e d in rw (z, quoted-place (a .name), sym q, sym g) h }
 
 -- ---- the city objects
 
@@ -163,80 +165,80 @@ one-more x t best e q g h ms d =
 none-indexed : (x t : List ℕ) (l : List Member) (offsets : List ℕ) → offsets ≡ replicate 1024 0 → l ≡ [] → Indexed x t l (record { offsets = offsets; count = 0 })
 none-indexed x t l offsets h e = record { room = fresh-length 1024 h; count = rw e; each = λ k d r. absurd (omega arith); rest = λ k r. fresh-zero 1024 h k }
 
-pub nothing-indexed : {x t : List ℕ} {found : Found} (offsets : List ℕ) → offsets ≡ replicate 1024 0 → found ≡ Nothing → IndexedFound x t found (record { offsets = offsets; count = 0 })
-unfolding Finds membersIn
-nothing-indexed {x} {t} offsets h e = record { is = λ o f. let z : o ≡ none = subst (Finds x t o) e f in none-indexed x t (membersIn o) offsets h (ap membersIn z) }
+-- nothing was found, another value was, or an object
+module _ {x t : List ℕ} {found : Found} where
+  no-members-fill : {offsets : List ℕ} → offsets ≡ replicate 1024 0 → ((o : Option Json) → Finds x t o found → membersIn o ≡ []) → Fills x t found (record { offsets = offsets; count = 0 }) Nothing
+  unfolding Extra
+  no-members-fill {offsets} h e =
+      record { indexed = λ o f. none-indexed x t (membersIn o) offsets h (e o f); more = record { is = λ o f. ap (drop 1024) (e o f) } }
 
-pub other-indexed : {x t : List ℕ} {found : Found} {k : ℕ} {b : Bool} (offsets : List ℕ) → offsets ≡ replicate 1024 0 → found ≡ At k → Gives isObjectValue x t k b → not b ≡ true → IndexedFound x t found (record { offsets = offsets; count = 0 })
-unfolding Finds membersIn
-other-indexed {x} {t} {b = b} offsets h e g n = record { is = λ o f. let (v, p, s) : Finds x t o (At _) = subst (Finds x t o) e f in none-indexed x t (membersIn o) offsets h (ap membersIn p ∙ no-members v (sym (g .is v s) ∙ not-true b n)) }
+  pub fill-nothing : {offsets : List ℕ} → offsets ≡ replicate 1024 0 → found ≡ Nothing → Fills x t found (record { offsets = offsets; count = 0 }) Nothing
+  unfolding Finds membersIn
+  fill-nothing h e = no-members-fill h (λ o f. let z : o ≡ none = subst (Finds x t o) e f in ap membersIn z)
 
-pub filled-indexed : {x t : List ℕ} {found extra : Found} {k : ℕ} {index : Index} → found ≡ At k → FillsAt x t k index extra → IndexedFound x t found index
-unfolding Finds membersIn
-filled-indexed {x} {t} {index = index} e f = record { is = λ o h. let (v, p, s) : Finds x t o (At _) = subst (Finds x t o) e h in subst (λ (q : Option Json). Indexed x t (membersIn q) index) (sym p) (f .indexed v s) }
+  pub fill-other : {offsets : List ℕ} {i : ℕ} {b : Bool} → offsets ≡ replicate 1024 0 → found ≡ At i → Gives isObjectValue x t i b → not b ≡ true
+      → Fills x t found (record { offsets = offsets; count = 0 }) Nothing
+  unfolding Finds membersIn
+  fill-other {b = b} h e g n =
+      no-members-fill h (λ o f. let (v, p, s) : Finds x t o (At _) = subst (Finds x t o) e f in ap membersIn p ∙ no-members v (sym (g .is v s) ∙ not-true b n))
+
+  pub fill-found : {i : ℕ} {index : Index} {extra : Found} → found ≡ At i → FillsAt x t i index extra → Fills x t found index extra
+  unfolding Finds membersIn
+  fill-found {index = index} {extra = extra} e g =
+      record {
+        indexed = λ o f.
+            let (v, p, s) : Finds x t o (At _) = subst (Finds x t o) e f in
+            subst (λ (o : Option Json). Indexed x t (membersIn o) index) (sym p) (g .indexed v s);
+        more =
+            record {
+              is = λ o f.
+                  let (v, p, s) : Finds x t o (At _) = subst (Finds x t o) e f in
+                  subst (λ (o : Option Json). Extra x t (drop 1024 (membersIn o)) extra) (sym p) (g .more .is v s);
+            };
+      }
+
+  -- the member that was found
+  pub extra-at : {i : ℕ} {extra : Found} → ExtraFound x t found extra → found ≡ At i → ExtraAt x t i extra
+  unfolding Finds membersIn
+  extra-at m e = record { is = λ v s. m .is (some v) (subst (Finds x t (some v)) (sym e) (v, refl, s)) }
+
+  pub root-indexed : {index : Index} {extra : Found} → Seeks (λ v. firstNamed (ascii "CityObjects") (members v)) x t 0 found → Fills x t found index extra → IndexedAt x t index
+  unfolding objectsOf find
+  root-indexed f g = record { is = λ v s. g .indexed (find "CityObjects" v) (f .finds v s) }
 
 -- an object at a node, where the test said so
 pub object-node : {x t : List ℕ} {i : ℕ} {b : Bool} → Node x t i → Gives isObjectValue x t i b → not b ≡ false → ObjectNode x t i
 object-node {b = b} d g h = record { node = d; is = rw (not-false b h) at g }
 
-pub extra-named : {x t : List ℕ} {i : ℕ} {index : Index} {extra : Found} → Node x t i → FillsAt x t i index extra → Named x t extra
-extra-named d f = record { members = drop 1024 (members (d .value)); extra = f .more (d .value) (d .stands); short = d .short }
+pub extra-named : {x t : List ℕ} {i : ℕ} {extra : Found} → Node x t i → ExtraAt x t i extra → Named x t extra
+extra-named d m = record { members = drop 1024 (members (d .value)); extra = m .is (d .value) (d .stands); short = d .short }
 
-module _ {x t : List ℕ} {i : ℕ} {b : Bool} (n best : ℕ) (g : Gives isObjectValue x t i b) where
+module _ {x t : List ℕ} {i : ℕ} {best : ℕ} {b : Bool} (n : ℕ) (g : Gives isObjectValue x t i b) where
   -- another value
-  pub objects-other : {r : ℕ} → not b ≡ true → Gives (λ v. least best (objectKind v)) x t i r → Gives (λ v. least best (cityObjects n v)) x t i r
+  pub objects-other : {r : ℕ} → not b ≡ true → Gives (λ v. least best (objectKind v)) x t i r → Checked (cityObjects n) x t i best r
   unfolding cityObjects objectLimit nameFault least
   objects-other {r} e u =
-      all-then best r objectKind (objectLimit ∷ eachMember (cityObject n) ∷ []) u
+      checked (cityObjects n)
+      (all-then best r objectKind (objectLimit ∷ eachMember (cityObject n) ∷ []) u
       (all-then r r objectLimit (eachMember (cityObject n) ∷ []) (record { is = λ v s. few v (no-members v (sym (g .is v s) ∙ not-true b e)) })
-      (all-then r r (eachMember (cityObject n)) [] (members-none (cityObject n) r g e) all-none))
+      (all-then r r (eachMember (cityObject n)) [] (members-none (cityObject n) r g e) all-none)))
     where
       few : (v : Json) → members v ≡ [] → r ≡ least r (objectLimit v)
       few v z = rw z
 
   -- an object
-  pub objects-told : {a r : ℕ} {index : Index} {extra : Found} → not b ≡ false → FillsAt x t i index extra → ((ms : List Member) → Extra x t ms extra → a ≡ least best (nameFault ms))
-      → Gives (λ v. least a (eachMember (cityObject n) v)) x t i r → Gives (λ v. least best (cityObjects n v)) x t i r
+  pub objects-told : {a r : ℕ} {extra : Found} → not b ≡ false → ExtraAt x t i extra → Limited x t extra best a
+      → Gives (λ v. least a (eachMember (cityObject n) v)) x t i r → Checked (cityObjects n) x t i best r
   unfolding cityObjects objectLimit objectKind
   objects-told {a} {r} e f m h =
-      all-then best best objectKind (objectLimit ∷ eachMember (cityObject n) ∷ []) (unless-told best 7 g (unless-yes best 7 (not-false b e)))
-      (all-then best a objectLimit (eachMember (cityObject n) ∷ []) (record { is = λ v s. m (drop 1024 (members v)) (f .more v s) })
-      (all-then a r (eachMember (cityObject n)) [] h all-none))
+      checked (cityObjects n)
+      (all-then best best objectKind (objectLimit ∷ eachMember (cityObject n) ∷ []) (unless-told best 7 g (unless-yes best 7 (not-false b e)))
+      (all-then best a objectLimit (eachMember (cityObject n) ∷ []) (record { is = λ v s. m .is (drop 1024 (members v)) (f .is v s) })
+      (all-then a r (eachMember (cityObject n)) [] h all-none)))
 
--- ---- the root
+-- what `search` is handed to close what a function that fills the index leaves: in its loop, over what was found, and over the city objects
+pub ruleset looped = (fill-begin, fill-room, fill-less, fill-turn, fill-stop, fill-done)
 
--- the checks of a root with so many vertices
-unfoldable rootWith : ℕ → Check
-rootWith n =
-    all (objectKind ∷ needs ("type" ∷ "version" ∷ "transform" ∷ "CityObjects" ∷ "vertices" ∷ [])
-    ∷ at "type" (word "CityJSON") ∷ at "version" (word "2.0") ∷ at "transform" transform ∷ at "CityObjects" (cityObjects n) ∷ at "vertices" vertices ∷ [])
+pub ruleset filling = (lines, at-room, at-onward, object-node, fill-nothing, fill-other, fill-found, root-indexed)
 
-root-with : (v : Json) → rootWith (countIn (find "vertices" v)) v ≡ cityJson v
-unfolding rootWith cityJson
-root-with v = refl
-
-pub root-all : {x t : List ℕ} (best a b c d e f g h l m : ℕ) {count r : ℕ} {kind version frame objects points : Found}
-    → Seeks (λ v. find "type" v) x t 0 kind → Seeks (λ v. find "version" v) x t 0 version → Seeks (λ v. find "transform" v) x t 0 frame → Seeks (λ v. find "CityObjects" v) x t 0 objects → Seeks (λ v. find "vertices" v) x t 0 points
-    → Gives (λ v. least best (objectKind v)) x t 0 a → Needs x t kind 0 a b → Needs x t version 0 b c → Needs x t frame 0 c d → Needs x t objects 0 d e → Needs x t points 0 e f
-    → GivesFound (λ o. least f (on (word "CityJSON") o)) x t kind g → GivesFound (λ o. least g (on (word "2.0") o)) x t version h → GivesFound (λ o. least h (on transform o)) x t frame l
-    → GivesFound countIn x t points count → GivesFound (λ o. least l (on (cityObjects count) o)) x t objects m → GivesFound (λ o. least m (on vertices o)) x t points r
-    → Gives (λ v. least best (cityJson v)) x t 0 r
-unfolding rootWith
-root-all {x} {t} best a b c d e f g h l m {count} {r} k1 k2 k3 k4 k5 o n1 n2 n3 n4 n5 w1 w2 tr cn co ve =
-    record { is = λ v j. whole .is v j ∙ ap (λ (n : ℕ). least best (rootWith n v)) (cn .is (find "vertices" v) (k5 .finds v j)) ∙ ap (least best) (root-with v) }
-  where
-    whole : Gives (λ v. least best (rootWith count v)) x t 0 r
-    whole =
-        all-then best a objectKind _ o
-        (all-then a f (needs ("type" ∷ "version" ∷ "transform" ∷ "CityObjects" ∷ "vertices" ∷ [])) _
-        (needs-then a b "type" _ k1 n1 (needs-then b c "version" _ k2 n2 (needs-then c d "transform" _ k3 n3 (needs-then d e "CityObjects" _ k4 n4 (needs-then e f "vertices" [] k5 n5 needs-none)))))
-        (all-then f g (at "type" (word "CityJSON")) _ (at-gives f "type" (word "CityJSON") k1 w1)
-        (all-then g h (at "version" (word "2.0")) _ (at-gives g "version" (word "2.0") k2 w2)
-        (all-then h l (at "transform" transform) _ (at-gives h "transform" transform k3 tr)
-        (all-then l m (at "CityObjects" (cityObjects count)) _ (at-gives l "CityObjects" (cityObjects count) k4 co)
-        (all-then m r (at "vertices" vertices) [] (at-gives m "vertices" vertices k5 ve) all-none))))))
-
--- the index of the city objects
-pub root-indexed : {x t : List ℕ} {objects : Found} {index : Index} → Seeks (λ v. find "CityObjects" v) x t 0 objects → IndexedFound x t objects index → IndexedAt x t index
-unfolding objectsOf
-root-indexed k i = record { is = λ v s. i .is (find "CityObjects" v) (k .finds v s) }
+pub ruleset limited = (lines, few-enough, name-first, name-low, one-more, object-node, extra-at, extra-named, objects-other, objects-told)

@@ -1,4 +1,6 @@
 -- What the proofs of several functions use.
-mod Objects
+mod Lines
+mod Strings
 mod Filling
 mod GeometryLaws
+mod Orders

@@ -1,30 +1,33 @@
 // Rules 7 to 14 over the node table of a text. Each function takes the least fault so far and gives the least.
+// A member has a function of its name, which looks it up and asks rule 8 if it is needed, or is handed what was found where others use it too;
+// one whose name ends in `_at` checks the value at its node. An object's function is a line of such calls.
 ghost use Prim.Native.Nat.{_<_};
-ghost use mathlib.Core.List.{List};
-ghost use mathlib.Core.Path.{_≡_};
+ghost use mathlib.Core.List.{[], _∷_};
+ghost use mathlib.Core.Option.{some};
 ghost use lib.ListN.{length};
-ghost use Rattle.words.specs.Words.{objectWords, geometryWords, depth};
+ghost use Rattle.utf8.specs.Ascii.{ascii};
+ghost use Rattle.words.specs.Words.{objectWords, geometryWords, isAdded, isLod, depth};
+ghost use Rattle.nodes.specs.Access.{textOf};
 ghost use Rattle.nodes.specs.Faults.{least};
 ghost use Rattle.nodes.specs.Says.{Node, Sought, Gives, GivesFound};
-ghost use Rattle.shapes.specs.Checks.{on, objectKind, eachMember, isEmpty};
+ghost use Rattle.fields.specs.Says.{StringNode};
+ghost use Rattle.shapes.specs.Checks.{all, on, objectKind, eachMember, isEmpty};
 ghost use Rattle.shapes.specs.Shapes.{shaped};
-ghost use Rattle.nodes.specs.Access.{Member};
-ghost use Rattle.fields.specs.Says.{CodeOf};
-ghost use Rattle.schema.specs.Schema.{oneWord, objectType, geometryType, surfaceType, boundaries, overBoundary, nameFault, cityJson};
+ghost use Rattle.shapes.specs.Says.{GivesTwo};
+ghost use Rattle.schema.specs.Schema.{oneWord, objectType, geometryType, surfaceType, isSurfaceType, boundaries, overBoundary, needsLod, cityJson};
 ghost use Rattle.schema.specs.Schema as schema;
-ghost use Rattle.schema.specs.Says.{GivesBoth, GivesOver, GivesThree, lacksLod, ObjectNode, Named, Extra, FillsAt, IndexedFound, IndexedAt, SoundAt, SoundFound};
+ghost use Rattle.schema.specs.Says as says;
+ghost use Rattle.schema.specs.Says.{Checked, CheckedOver, optional, required, MemberFound, TypeAt, CodeAt, SoundAt, Outlined, Overlaid};
+ghost use Rattle.schema.specs.Says.{ObjectNode, ExtraAt, ExtraFound, Named, Limited, Fills, IndexedAt};
 use fields::Index;
 use nodes::Found;
 use nodes::NO_FAULT;
 
 // Rules 7 and 10: a string that is one word.
-fn one_word(text: &[u8], table: &[u32], found: Found, word: &[u8], best: u32) -> u32
-    requires { ⌜ (Sought (now text) (now table) found) × (0 < length (now word)) ⌝ }
-    ensures { λ r. ⌜ GivesFound (λ o. least best (on (oneWord (now (word .entry))) o)) (now (text .entry)) (now (table .entry)) found r ⌝ }
+fn one_word(text: &[u8], table: &[u32], k: usize, word: &[u8], best: u32) -> u32
+    requires { ⌜ (Node (now text) (now table) k) × (0 < length (now word)) ⌝ }
+    ensures { λ r. ⌜ Checked (oneWord (now (word .entry))) (now (text .entry)) (now (table .entry)) k best r ⌝ }
 {
-    let Found::At(k) = found else {
-        return best;
-    };
     if !nodes::is_string(text, table, k) {
         return shapes::string(text, table, k, best);
     }
@@ -38,45 +41,72 @@ fn one_word(text: &[u8], table: &[u32], found: Found, word: &[u8], best: u32) ->
     )
 }
 
-// Rules 7, 10 and 11 of an object's type.
-fn object_type(text: &[u8], table: &[u32], found: Found, code: usize, best: u32) -> u32
-    requires { ⌜ CodeOf objectWords (now text) (now table) found code ⌝ }
-    ensures { λ r. ⌜ GivesFound (λ o. least best (on objectType o)) (now (text .entry)) (now (table .entry)) found r ⌝ }
+// A member that is needed and is one word.
+fn required_word(text: &[u8], table: &[u32], i: usize, name: &[u8], word: &[u8], best: u32) -> u32
+    requires { ⌜ (Node (now text) (now table) i) × (0 < length (now word)) ⌝ }
+    ensures { λ r. ⌜ Checked (required (now (name .entry)) (oneWord (now (word .entry)))) (now (text .entry)) (now (table .entry)) i best r ⌝ }
 {
+    let found = nodes::member(text, table, i, name);
+    let a = shapes::need(found, text, table, i, best);
     let Found::At(k) = found else {
-        return best;
+        return a;
     };
+    one_word(text, table, k, word, a)
+}
+
+// Does the string at a node begin with a plus sign?
+fn is_added(text: &[u8], table: &[u32], k: usize) -> bool
+    requires { ⌜ StringNode (now text) (now table) k ⌝ }
+    ensures { λ r. ⌜ Gives (λ v. isAdded (textOf v)) (now (text .entry)) (now (table .entry)) k r ⌝ }
+{
+    types::is_added(
+        text,
+        fields::text_from(text, table, k),
+        fields::text_to(text, table, k),
+    )
+}
+
+// Rules 7, 10 and 11 of an object's type, whose code is given.
+fn object_type_at(text: &[u8], table: &[u32], k: usize, code: usize, best: u32) -> u32
+    requires { ⌜ CodeAt objectWords (now text) (now table) k code ⌝ }
+    ensures { λ r. ⌜ Checked objectType (now (text .entry)) (now (table .entry)) k best r ⌝ }
+{
     if !nodes::is_string(text, table, k) {
         return shapes::string(text, table, k, best);
     }
     if code != 0 {
         return best;
     }
-    if types::is_added(
-        text,
-        fields::text_from(text, table, k),
-        fields::text_to(text, table, k),
-    ) {
+    if is_added(text, table, k) {
         return shapes::unless(false, 11, text, table, k, best);
     }
     shapes::unless(false, 10, text, table, k, best)
 }
 
-// Rules 7, 10, 11 and 14 of a geometry's type.
-fn geometry_type(
+// An object's type, which is needed.
+fn object_type(text: &[u8], table: &[u32], i: usize, kind: Found, code: usize, best: u32) -> u32
+    requires { ⌜ TypeAt objectWords (now text) (now table) i kind code ⌝ }
+    ensures { λ r. ⌜ Checked (required (ascii "type") objectType) (now (text .entry)) (now (table .entry)) i best r ⌝ }
+{
+    let a = shapes::need(kind, text, table, i, best);
+    let Found::At(k) = kind else {
+        return a;
+    };
+    object_type_at(text, table, k, code, a)
+}
+
+// Rules 7, 10, 11 and 14 of a geometry's type, whose code is given.
+fn geometry_type_at(
     text: &[u8],
     table: &[u32],
-    found: Found,
+    k: usize,
     code: usize,
     object: usize,
     best: u32,
 ) -> u32
-    requires { ⌜ CodeOf geometryWords (now text) (now table) found code ⌝ }
-    ensures { λ r. ⌜ GivesFound (λ o. least best (on (geometryType object code) o)) (now (text .entry)) (now (table .entry)) found r ⌝ }
+    requires { ⌜ CodeAt geometryWords (now text) (now table) k code ⌝ }
+    ensures { λ r. ⌜ Checked (geometryType object code) (now (text .entry)) (now (table .entry)) k best r ⌝ }
 {
-    let Found::At(k) = found else {
-        return best;
-    };
     if !nodes::is_string(text, table, k) {
         return shapes::string(text, table, k, best);
     }
@@ -89,55 +119,95 @@ fn geometry_type(
     shapes::unless(false, 10, text, table, k, best)
 }
 
-// Rules 7 and 10 of `lod`.
-fn lod(text: &[u8], table: &[u32], found: Found, best: u32) -> u32
-    requires { ⌜ Sought (now text) (now table) found ⌝ }
-    ensures { λ r. ⌜ GivesFound (λ o. least best (on schema.lod o)) (now (text .entry)) (now (table .entry)) found r ⌝ }
+// A geometry's type, which is needed.
+fn geometry_type(
+    text: &[u8],
+    table: &[u32],
+    i: usize,
+    kind: Found,
+    code: usize,
+    object: usize,
+    best: u32,
+) -> u32
+    requires { ⌜ TypeAt geometryWords (now text) (now table) i kind code ⌝ }
+    ensures { λ r. ⌜ Checked (required (ascii "type") (geometryType object code)) (now (text .entry)) (now (table .entry)) i best r ⌝ }
 {
-    let Found::At(k) = found else {
-        return best;
+    let a = shapes::need(kind, text, table, i, best);
+    let Found::At(k) = kind else {
+        return a;
     };
-    if !nodes::is_string(text, table, k) {
-        return shapes::string(text, table, k, best);
-    }
-    shapes::unless(
-        types::is_lod(
-            text,
-            fields::text_from(text, table, k),
-            fields::text_to(text, table, k),
-        ),
-        10,
+    geometry_type_at(text, table, k, code, object, a)
+}
+
+// Is the string at a node a level of detail?
+fn is_lod(text: &[u8], table: &[u32], k: usize) -> bool
+    requires { ⌜ StringNode (now text) (now table) k ⌝ }
+    ensures { λ r. ⌜ Gives (λ v. isLod (textOf v)) (now (text .entry)) (now (table .entry)) k r ⌝ }
+{
+    types::is_lod(
         text,
-        table,
-        k,
-        best,
+        fields::text_from(text, table, k),
+        fields::text_to(text, table, k),
     )
 }
 
-// Rules 7 and 10 of a surface's type.
-fn surface_type(text: &[u8], table: &[u32], found: Found, best: u32) -> u32
-    requires { ⌜ Sought (now text) (now table) found ⌝ }
-    ensures { λ r. ⌜ GivesFound (λ o. least best (on surfaceType o)) (now (text .entry)) (now (table .entry)) found r ⌝ }
+// Rules 7 and 10 of a level of detail.
+fn lod_at(text: &[u8], table: &[u32], k: usize, best: u32) -> u32
+    requires { ⌜ Node (now text) (now table) k ⌝ }
+    ensures { λ r. ⌜ Checked schema.lod (now (text .entry)) (now (table .entry)) k best r ⌝ }
+{
+    if !nodes::is_string(text, table, k) {
+        return shapes::string(text, table, k, best);
+    }
+    shapes::unless(is_lod(text, table, k), 10, text, table, k, best)
+}
+
+// The `lod` that was found.
+fn lod(text: &[u8], table: &[u32], i: usize, found: Found, best: u32) -> u32
+    requires { ⌜ MemberFound (ascii "lod") (now text) (now table) i found ⌝ }
+    ensures { λ r. ⌜ Checked (optional (ascii "lod") schema.lod) (now (text .entry)) (now (table .entry)) i best r ⌝ }
 {
     let Found::At(k) = found else {
         return best;
     };
-    if !nodes::is_string(text, table, k) {
-        return shapes::string(text, table, k, best);
-    }
+    lod_at(text, table, k, best)
+}
+
+// Is the string at a node the type of a surface?
+fn is_surface_type(text: &[u8], table: &[u32], k: usize) -> bool
+    requires { ⌜ StringNode (now text) (now table) k ⌝ }
+    ensures { λ r. ⌜ Gives (λ v. isSurfaceType (textOf v)) (now (text .entry)) (now (table .entry)) k r ⌝ }
+{
     let from = fields::text_from(text, table, k);
     let to = fields::text_to(text, table, k);
     if words::surface_code(text, from, to) != 0 {
-        return best;
+        return true;
     }
-    shapes::unless(
-        types::is_added_name(text, from, to),
-        10,
-        text,
-        table,
-        k,
-        best,
-    )
+    types::is_added_name(text, from, to)
+}
+
+// Rules 7 and 10 of a surface's type.
+fn surface_type_at(text: &[u8], table: &[u32], k: usize, best: u32) -> u32
+    requires { ⌜ Node (now text) (now table) k ⌝ }
+    ensures { λ r. ⌜ Checked surfaceType (now (text .entry)) (now (table .entry)) k best r ⌝ }
+{
+    if !nodes::is_string(text, table, k) {
+        return shapes::string(text, table, k, best);
+    }
+    shapes::unless(is_surface_type(text, table, k), 10, text, table, k, best)
+}
+
+// A surface's type, which is needed.
+fn surface_type(text: &[u8], table: &[u32], i: usize, best: u32) -> u32
+    requires { ⌜ Node (now text) (now table) i ⌝ }
+    ensures { λ r. ⌜ Checked (required (ascii "type") surfaceType) (now (text .entry)) (now (table .entry)) i best r ⌝ }
+{
+    let found = nodes::member(text, table, i, b"type");
+    let a = shapes::need(found, text, table, i, best);
+    let Found::At(k) = found else {
+        return a;
+    };
+    surface_type_at(text, table, k, a)
 }
 
 // A surface.
@@ -145,20 +215,15 @@ fn surface(text: &[u8], table: &[u32], i: usize, best: u32) -> u32
     requires { ⌜ Node (now text) (now table) i ⌝ }
     ensures { λ r. ⌜ Gives (λ v. least best (schema.surface v)) (now (text .entry)) (now (table .entry)) i r ⌝ }
 {
-    let kind = nodes::member(text, table, i, b"type");
     let a = shapes::object(text, table, i, best);
-    let b = shapes::need(kind, text, table, i, a);
-    surface_type(text, table, kind, b)
+    surface_type(text, table, i, a)
 }
 
-// The surfaces: an array of them.
-fn surfaces(text: &[u8], table: &[u32], found: Found, best: u32) -> u32
-    requires { ⌜ Sought (now text) (now table) found ⌝ }
-    ensures { λ r. ⌜ GivesFound (λ o. least best (on schema.surfaces o)) (now (text .entry)) (now (table .entry)) found r ⌝ }
+// An array of surfaces.
+fn surfaces_at(text: &[u8], table: &[u32], i: usize, best: u32) -> u32
+    requires { ⌜ Node (now text) (now table) i ⌝ }
+    ensures { λ r. ⌜ Checked schema.surfaces (now (text .entry)) (now (table .entry)) i best r ⌝ }
 {
-    let Found::At(i) = found else {
-        return best;
-    };
     if !nodes::is_array(text, table, i) {
         return shapes::array(text, table, i, best);
     }
@@ -172,6 +237,18 @@ fn surfaces(text: &[u8], table: &[u32], found: Found, best: u32) -> u32
     least
 }
 
+// The surfaces that were found, which are needed.
+fn surfaces(text: &[u8], table: &[u32], i: usize, found: Found, best: u32) -> u32
+    requires { ⌜ MemberFound (ascii "surfaces") (now text) (now table) i found ⌝ }
+    ensures { λ r. ⌜ Checked (required (ascii "surfaces") schema.surfaces) (now (text .entry)) (now (table .entry)) i best r ⌝ }
+{
+    let a = shapes::need(found, text, table, i, best);
+    let Found::At(k) = found else {
+        return a;
+    };
+    surfaces_at(text, table, k, a)
+}
+
 // Is the boundary at a node well shaped? That is known of a sound one.
 fn is_shaped(text: &[u8], table: &[u32], i: usize, code: usize, sound: bool) -> bool
     requires { ⌜ (Node (now text) (now table) i) × (SoundAt (now text) (now table) i code sound) ⌝ }
@@ -183,89 +260,143 @@ fn is_shaped(text: &[u8], table: &[u32], i: usize, code: usize, sound: bool) -> 
     shapes::shaped(text, table, i, types::depth_of(code), NO_FAULT) == NO_FAULT
 }
 
-// Rule 12 of `values` over a boundary, which is judged only if the boundary is well shaped, and rule 13 of its integers.
+// Rule 12 of the values at `v` over the boundary at `b`, which is judged only if the boundary is well shaped, and rule 13 of their integers.
 fn over_boundary(
     text: &[u8],
     table: &[u32],
+    b: usize,
     v: usize,
-    boundary: Found,
     code: usize,
     sound: bool,
     surfaces: usize,
     best: u32,
 ) -> u32
-    requires { ⌜ (Node (now text) (now table) v) × (Sought (now text) (now table) boundary) × (SoundFound (now text) (now table) boundary code sound) ⌝ }
-    ensures { λ r. ⌜ GivesOver (λ o w. least best (overBoundary surfaces code o w)) (now (text .entry)) (now (table .entry)) boundary v r ⌝ }
+    requires { ⌜ Overlaid (now text) (now table) b v code sound ⌝ }
+    ensures { λ r. ⌜ GivesTwo (λ w u. least best (overBoundary surfaces code (some w) u)) (now (text .entry)) (now (table .entry)) b v r ⌝ }
 {
-    let Found::At(b) = boundary else {
+    let depth = types::values_depth_of(code);
+    let range = shapes::ranged(text, table, v, depth, surfaces, best);
+    if !is_shaped(text, table, b, code, sound) {
+        return range;
+    }
+    shapes::matches(text, table, b, v, depth, range)
+}
+
+// The same over the boundary that was found, if it has a code.
+fn over_outline(
+    text: &[u8],
+    table: &[u32],
+    v: usize,
+    outline: Found,
+    code: usize,
+    sound: bool,
+    surfaces: usize,
+    best: u32,
+) -> u32
+    requires { ⌜ (Node (now text) (now table) v) × (Outlined (now text) (now table) outline code sound) ⌝ }
+    ensures { λ r. ⌜ CheckedOver (overBoundary surfaces code) (now (text .entry)) (now (table .entry)) outline v best r ⌝ }
+{
+    let Found::At(b) = outline else {
         return best;
     };
     if code == 0 {
         return best;
     }
-    let range = shapes::ranged(text, table, v, types::values_depth_of(code), surfaces, best);
-    if !is_shaped(text, table, b, code, sound) {
-        return range;
-    }
-    shapes::matches(text, table, b, v, types::values_depth_of(code), range)
+    over_boundary(text, table, b, v, code, sound, surfaces, best)
 }
 
-// The values of a geometry's semantics.
-fn values(
+// An array of semantic values, over the boundary that was found.
+fn values_at(
     text: &[u8],
     table: &[u32],
-    found: Found,
-    boundary: Found,
+    v: usize,
+    outline: Found,
     code: usize,
     sound: bool,
     surfaces: usize,
     best: u32,
 ) -> u32
-    requires { ⌜ (Sought (now text) (now table) found) × (Sought (now text) (now table) boundary) × (SoundFound (now text) (now table) boundary code sound) ⌝ }
-    ensures { λ r. ⌜ GivesBoth (λ o p. least best (on (schema.values surfaces code p) o)) (now (text .entry)) (now (table .entry)) found boundary r ⌝ }
+    requires { ⌜ (Node (now text) (now table) v) × (Outlined (now text) (now table) outline code sound) ⌝ }
+    ensures { λ r. ⌜ CheckedOver (schema.values surfaces code) (now (text .entry)) (now (table .entry)) outline v best r ⌝ }
 {
-    let Found::At(v) = found else {
-        return best;
-    };
-    let kind = shapes::array(text, table, v, best);
-    over_boundary(text, table, v, boundary, code, sound, surfaces, kind)
+    let a = shapes::array(text, table, v, best);
+    over_outline(text, table, v, outline, code, sound, surfaces, a)
 }
 
-// A geometry's semantics over its boundary, which is sound if it has no fault.
-fn semantics(
+// The semantic values, which are needed.
+fn values(
     text: &[u8],
     table: &[u32],
-    found: Found,
-    boundary: Found,
+    i: usize,
+    outline: Found,
+    code: usize,
+    sound: bool,
+    surfaces: usize,
+    best: u32,
+) -> u32
+    requires { ⌜ (Node (now text) (now table) i) × (Outlined (now text) (now table) outline code sound) ⌝ }
+    ensures { λ r. ⌜ CheckedOver (λ o. required (ascii "values") (schema.values surfaces code o)) (now (text .entry)) (now (table .entry)) outline i best r ⌝ }
+{
+    let found = nodes::member(text, table, i, b"values");
+    let a = shapes::need(found, text, table, i, best);
+    let Found::At(v) = found else {
+        return a;
+    };
+    values_at(text, table, v, outline, code, sound, surfaces, a)
+}
+
+// Semantics over the boundary that was found, which is sound if it has no fault.
+fn semantics_at(
+    text: &[u8],
+    table: &[u32],
+    i: usize,
+    outline: Found,
     code: usize,
     sound: bool,
     best: u32,
 ) -> u32
-    requires { ⌜ (Sought (now text) (now table) found) × (Sought (now text) (now table) boundary) × (SoundFound (now text) (now table) boundary code sound) ⌝ }
-    ensures { λ r. ⌜ GivesBoth (λ o p. least best (on (schema.semantics code p) o)) (now (text .entry)) (now (table .entry)) found boundary r ⌝ }
+    requires { ⌜ (Node (now text) (now table) i) × (Outlined (now text) (now table) outline code sound) ⌝ }
+    ensures { λ r. ⌜ CheckedOver (schema.semantics code) (now (text .entry)) (now (table .entry)) outline i best r ⌝ }
 {
-    let Found::At(i) = found else {
-        return best;
-    };
     let all = nodes::member(text, table, i, b"surfaces");
-    let each = nodes::member(text, table, i, b"values");
     let a = shapes::object(text, table, i, best);
-    let b = shapes::need(all, text, table, i, a);
-    let c = shapes::need(each, text, table, i, b);
-    let d = surfaces(text, table, all, c);
-    values(
-        text,
-        table,
-        each,
-        boundary,
-        code,
-        sound,
-        fields::count_found(text, table, all),
-        d,
-    )
+    let b = surfaces(text, table, i, all, a);
+    let count = fields::count_found(text, table, all);
+    values(text, table, i, outline, code, sound, count, b)
 }
 
-// A geometry's boundary: an array (7), its shape (12) and its indices (13).
+// A geometry's semantics.
+fn semantics(
+    text: &[u8],
+    table: &[u32],
+    i: usize,
+    outline: Found,
+    code: usize,
+    sound: bool,
+    best: u32,
+) -> u32
+    requires { ⌜ (Node (now text) (now table) i) × (Outlined (now text) (now table) outline code sound) ⌝ }
+    ensures { λ r. ⌜ CheckedOver (λ o. optional (ascii "semantics") (schema.semantics code o)) (now (text .entry)) (now (table .entry)) outline i best r ⌝ }
+{
+    let Found::At(k) = nodes::member(text, table, i, b"semantics") else {
+        return best;
+    };
+    semantics_at(text, table, k, outline, code, sound, best)
+}
+
+// A boundary: an array (7), its shape (12) and its indices (13).
+fn boundary_at(text: &[u8], table: &[u32], k: usize, code: usize, vertices: usize, best: u32) -> u32
+    requires { ⌜ Node (now text) (now table) k ⌝ }
+    ensures { λ r. ⌜ Checked (boundaries vertices code) (now (text .entry)) (now (table .entry)) k best r ⌝ }
+{
+    let kind = shapes::array(text, table, k, best);
+    if code == 0 {
+        return kind;
+    }
+    shapes::boundary(text, table, k, types::depth_of(code), vertices, kind)
+}
+
+// The boundary that was found.
 fn boundary(
     text: &[u8],
     table: &[u32],
@@ -280,22 +411,52 @@ fn boundary(
     let Found::At(k) = found else {
         return best;
     };
-    let kind = shapes::array(text, table, k, best);
-    if code == 0 {
-        return kind;
-    }
-    shapes::boundary(text, table, k, types::depth_of(code), vertices, kind)
+    boundary_at(text, table, k, code, vertices, best)
+}
+
+// A geometry's boundary, which is needed, and its semantics. Whether the boundary is sound is told by its own fault.
+fn body(text: &[u8], table: &[u32], i: usize, code: usize, vertices: usize, best: u32) -> u32
+    requires { ⌜ Node (now text) (now table) i ⌝ }
+    ensures { λ r. ⌜ Checked (all (required (ascii "boundaries") (boundaries vertices code) ∷ says.meaning code ∷ []))
+        (now (text .entry)) (now (table .entry)) i best r ⌝ }
+{
+    let outline = nodes::member(text, table, i, b"boundaries");
+    let a = shapes::need(outline, text, table, i, best);
+    let own = boundary(text, table, outline, code, vertices, 0xffff_ffff);
+    let b = nodes::lesser(a, own);
+    semantics(text, table, i, outline, code, own == 0xffff_ffff, b)
 }
 
 // Rule 8 of `lod`, which a geometry needs unless its type is `GeometryInstance`.
 fn need_lod(text: &[u8], table: &[u32], i: usize, kind: Found, found: Found, best: u32) -> u32
-    requires { ⌜ (Node (now text) (now table) i) × (Sought (now text) (now table) kind) × (Sought (now text) (now table) found) ⌝ }
-    ensures { λ r. ⌜ GivesThree (lacksLod best) (now (text .entry)) (now (table .entry)) i kind found r ⌝ }
+    requires { ⌜ (MemberFound (ascii "type") (now text) (now table) i kind) × (MemberFound (ascii "lod") (now text) (now table) i found) ⌝ }
+    ensures { λ r. ⌜ Checked needsLod (now (text .entry)) (now (table .entry)) i best r ⌝ }
 {
     if fields::found_word(text, table, kind, b"GeometryInstance") {
         return best;
     }
     shapes::need(found, text, table, i, best)
+}
+
+// A geometry's kind, its type, which was found, with its code, and its `lod`.
+fn geometry_words(
+    text: &[u8],
+    table: &[u32],
+    i: usize,
+    kind: Found,
+    code: usize,
+    object: usize,
+    best: u32,
+) -> u32
+    requires { ⌜ TypeAt geometryWords (now text) (now table) i kind code ⌝ }
+    ensures { λ r. ⌜ Checked (all (objectKind ∷ needsLod ∷ required (ascii "type") (geometryType object code) ∷ optional (ascii "lod") schema.lod ∷ []))
+        (now (text .entry)) (now (table .entry)) i best r ⌝ }
+{
+    let level = nodes::member(text, table, i, b"lod");
+    let a = shapes::object(text, table, i, best);
+    let b = need_lod(text, table, i, kind, level, a);
+    let c = geometry_type(text, table, i, kind, code, object, b);
+    lod(text, table, i, level, c)
 }
 
 // A geometry of an object whose type has the code `object`.
@@ -304,36 +465,23 @@ fn geometry(text: &[u8], table: &[u32], i: usize, vertices: usize, object: usize
     ensures { λ r. ⌜ Gives (λ v. least best (schema.geometry vertices object v)) (now (text .entry)) (now (table .entry)) i r ⌝ }
 {
     let kind = nodes::member(text, table, i, b"type");
-    let level = nodes::member(text, table, i, b"lod");
-    let outline = nodes::member(text, table, i, b"boundaries");
-    let meaning = nodes::member(text, table, i, b"semantics");
     let code = fields::geometry_code(text, table, kind);
-    let a = shapes::object(text, table, i, best);
-    let b = shapes::need(kind, text, table, i, a);
-    let c = shapes::need(outline, text, table, i, b);
-    let d = need_lod(text, table, i, kind, level, c);
-    let e = geometry_type(text, table, kind, code, object, d);
-    let f = lod(text, table, level, e);
-    let own = boundary(text, table, outline, code, vertices, 0xffff_ffff);
-    let g = nodes::lesser(f, own);
-    semantics(text, table, meaning, outline, code, own == 0xffff_ffff, g)
+    let a = geometry_words(text, table, i, kind, code, object, best);
+    body(text, table, i, code, vertices, a)
 }
 
-// The geometries of an object: an array of them.
-fn geometries(
+// An array of geometries.
+fn geometries_at(
     text: &[u8],
     table: &[u32],
-    found: Found,
+    i: usize,
     vertices: usize,
     object: usize,
     best: u32,
 ) -> u32
-    requires { ⌜ Sought (now text) (now table) found ⌝ }
-    ensures { λ r. ⌜ GivesFound (λ o. least best (on (schema.geometries vertices object) o)) (now (text .entry)) (now (table .entry)) found r ⌝ }
+    requires { ⌜ Node (now text) (now table) i ⌝ }
+    ensures { λ r. ⌜ Checked (schema.geometries vertices object) (now (text .entry)) (now (table .entry)) i best r ⌝ }
 {
-    let Found::At(i) = found else {
-        return best;
-    };
     if !nodes::is_array(text, table, i) {
         return shapes::array(text, table, i, best);
     }
@@ -347,14 +495,29 @@ fn geometries(
     least
 }
 
-// Children or parents: an array of strings.
-fn ids(text: &[u8], table: &[u32], found: Found, best: u32) -> u32
-    requires { ⌜ Sought (now text) (now table) found ⌝ }
-    ensures { λ r. ⌜ GivesFound (λ o. least best (on schema.links o)) (now (text .entry)) (now (table .entry)) found r ⌝ }
+// The geometries of an object.
+fn geometries(
+    text: &[u8],
+    table: &[u32],
+    i: usize,
+    vertices: usize,
+    object: usize,
+    best: u32,
+) -> u32
+    requires { ⌜ Node (now text) (now table) i ⌝ }
+    ensures { λ r. ⌜ Checked (optional (ascii "geometry") (schema.geometries vertices object)) (now (text .entry)) (now (table .entry)) i best r ⌝ }
 {
-    let Found::At(i) = found else {
+    let Found::At(k) = nodes::member(text, table, i, b"geometry") else {
         return best;
     };
+    geometries_at(text, table, k, vertices, object, best)
+}
+
+// An array of strings.
+fn ids(text: &[u8], table: &[u32], i: usize, best: u32) -> u32
+    requires { ⌜ Node (now text) (now table) i ⌝ }
+    ensures { λ r. ⌜ Checked schema.links (now (text .entry)) (now (table .entry)) i best r ⌝ }
+{
     if !nodes::is_array(text, table, i) {
         return shapes::array(text, table, i, best);
     }
@@ -368,15 +531,58 @@ fn ids(text: &[u8], table: &[u32], found: Found, best: u32) -> u32
     least
 }
 
-// Rule 7: an object was found, or nothing.
-fn found_object(text: &[u8], table: &[u32], found: Found, best: u32) -> u32
-    requires { ⌜ Sought (now text) (now table) found ⌝ }
-    ensures { λ r. ⌜ GivesFound (λ o. least best (on objectKind o)) (now (text .entry)) (now (table .entry)) found r ⌝ }
+// The children of an object.
+fn children(text: &[u8], table: &[u32], i: usize, best: u32) -> u32
+    requires { ⌜ Node (now text) (now table) i ⌝ }
+    ensures { λ r. ⌜ Checked (optional (ascii "children") schema.links) (now (text .entry)) (now (table .entry)) i best r ⌝ }
 {
-    let Found::At(k) = found else {
+    let Found::At(k) = nodes::member(text, table, i, b"children") else {
+        return best;
+    };
+    ids(text, table, k, best)
+}
+
+// The parents of an object.
+fn parents(text: &[u8], table: &[u32], i: usize, best: u32) -> u32
+    requires { ⌜ Node (now text) (now table) i ⌝ }
+    ensures { λ r. ⌜ Checked (optional (ascii "parents") schema.links) (now (text .entry)) (now (table .entry)) i best r ⌝ }
+{
+    let Found::At(k) = nodes::member(text, table, i, b"parents") else {
+        return best;
+    };
+    ids(text, table, k, best)
+}
+
+// A member that may be absent and is an object.
+fn optional_object(text: &[u8], table: &[u32], i: usize, name: &[u8], best: u32) -> u32
+    requires { ⌜ Node (now text) (now table) i ⌝ }
+    ensures { λ r. ⌜ Checked (optional (now (name .entry)) objectKind) (now (text .entry)) (now (table .entry)) i best r ⌝ }
+{
+    let Found::At(k) = nodes::member(text, table, i, name) else {
         return best;
     };
     shapes::object(text, table, k, best)
+}
+
+// A city object whose type was found, with its code.
+fn city_object_of(
+    text: &[u8],
+    table: &[u32],
+    i: usize,
+    kind: Found,
+    code: usize,
+    vertices: usize,
+    best: u32,
+) -> u32
+    requires { ⌜ TypeAt objectWords (now text) (now table) i kind code ⌝ }
+    ensures { λ r. ⌜ Checked (schema.cityObject vertices) (now (text .entry)) (now (table .entry)) i best r ⌝ }
+{
+    let a = shapes::object(text, table, i, best);
+    let b = object_type(text, table, i, kind, code, a);
+    let c = optional_object(text, table, i, b"attributes", b);
+    let d = children(text, table, i, c);
+    let e = parents(text, table, i, d);
+    geometries(text, table, i, vertices, code, e)
 }
 
 // A city object.
@@ -386,59 +592,55 @@ fn city_object(text: &[u8], table: &[u32], i: usize, vertices: usize, best: u32)
 {
     let kind = nodes::member(text, table, i, b"type");
     let code = fields::object_code(text, table, kind);
-    let a = shapes::object(text, table, i, best);
-    let b = shapes::need(kind, text, table, i, a);
-    let c = object_type(text, table, kind, code, b);
-    let d = found_object(text, table, nodes::member(text, table, i, b"attributes"), c);
-    let e = ids(text, table, nodes::member(text, table, i, b"children"), d);
-    let f = ids(text, table, nodes::member(text, table, i, b"parents"), e);
-    geometries(
-        text,
-        table,
-        nodes::member(text, table, i, b"geometry"),
-        vertices,
-        code,
-        f,
-    )
+    city_object_of(text, table, i, kind, code, vertices, best)
 }
 
-// The transform.
-fn transform(text: &[u8], table: &[u32], found: Found, best: u32) -> u32
-    requires { ⌜ Sought (now text) (now table) found ⌝ }
-    ensures { λ r. ⌜ GivesFound (λ o. least best (on schema.transform o)) (now (text .entry)) (now (table .entry)) found r ⌝ }
+// `scale` or `translate`, which is needed.
+fn required_pairs(text: &[u8], table: &[u32], i: usize, name: &[u8], best: u32) -> u32
+    requires { ⌜ Node (now text) (now table) i ⌝ }
+    ensures { λ r. ⌜ Checked (required (now (name .entry)) schema.threePairs) (now (text .entry)) (now (table .entry)) i best r ⌝ }
 {
-    let Found::At(i) = found else {
-        return best;
-    };
-    let scale = nodes::member(text, table, i, b"scale");
-    let translate = nodes::member(text, table, i, b"translate");
-    let a = shapes::object(text, table, i, best);
-    let b = shapes::need(scale, text, table, i, a);
-    let c = shapes::need(translate, text, table, i, b);
-    let d = found_pairs(text, table, scale, c);
-    found_pairs(text, table, translate, d)
-}
-
-// `scale` or `translate`, if it was found.
-fn found_pairs(text: &[u8], table: &[u32], found: Found, best: u32) -> u32
-    requires { ⌜ Sought (now text) (now table) found ⌝ }
-    ensures { λ r. ⌜ GivesFound (λ o. least best (on schema.threePairs o)) (now (text .entry)) (now (table .entry)) found r ⌝ }
-{
+    let found = nodes::member(text, table, i, name);
+    let a = shapes::need(found, text, table, i, best);
     let Found::At(k) = found else {
-        return best;
+        return a;
     };
-    shapes::three_pairs(text, table, k, best)
+    shapes::three_pairs(text, table, k, a)
 }
 
-// The vertices, if they were found.
-fn found_vertices(text: &[u8], table: &[u32], found: Found, best: u32) -> u32
-    requires { ⌜ Sought (now text) (now table) found ⌝ }
-    ensures { λ r. ⌜ GivesFound (λ o. least best (on schema.vertices o)) (now (text .entry)) (now (table .entry)) found r ⌝ }
+// A transform.
+fn transform_at(text: &[u8], table: &[u32], i: usize, best: u32) -> u32
+    requires { ⌜ Node (now text) (now table) i ⌝ }
+    ensures { λ r. ⌜ Checked schema.transform (now (text .entry)) (now (table .entry)) i best r ⌝ }
 {
+    let a = shapes::object(text, table, i, best);
+    let b = required_pairs(text, table, i, b"scale", a);
+    required_pairs(text, table, i, b"translate", b)
+}
+
+// The transform, which is needed.
+fn transform(text: &[u8], table: &[u32], i: usize, best: u32) -> u32
+    requires { ⌜ Node (now text) (now table) i ⌝ }
+    ensures { λ r. ⌜ Checked (required (ascii "transform") schema.transform) (now (text .entry)) (now (table .entry)) i best r ⌝ }
+{
+    let found = nodes::member(text, table, i, b"transform");
+    let a = shapes::need(found, text, table, i, best);
     let Found::At(k) = found else {
-        return best;
+        return a;
     };
-    shapes::vertices(text, table, k, best)
+    transform_at(text, table, k, a)
+}
+
+// The vertices that were found, which are needed.
+fn vertices(text: &[u8], table: &[u32], i: usize, found: Found, best: u32) -> u32
+    requires { ⌜ MemberFound (ascii "vertices") (now text) (now table) i found ⌝ }
+    ensures { λ r. ⌜ Checked (required (ascii "vertices") schema.vertices) (now (text .entry)) (now (table .entry)) i best r ⌝ }
+{
+    let a = shapes::need(found, text, table, i, best);
+    let Found::At(k) = found else {
+        return a;
+    };
+    shapes::vertices(text, table, k, a)
 }
 
 // What the walk over the city objects gives: the index of the first 1,024, and the least fault.
@@ -453,13 +655,31 @@ struct Filled {
     extra: Found,
 }
 
-// Fills the index of the city objects, at the node of an object.
-fn fill_index(text: &[u8], table: &[u32], i: usize) -> Filled
-    requires { ⌜ ObjectNode (now text) (now table) i ⌝ }
-    ensures { λ r. ⌜ FillsAt (now (text .entry)) (now (table .entry)) i (r .index) (r .extra) ⌝ }
+// Fills the index of the city objects that were found; other values have none.
+fn fill_index(text: &[u8], table: &[u32], found: Found) -> Filled
+    requires { ⌜ Sought (now text) (now table) found ⌝ }
+    ensures { λ r. ⌜ Fills (now (text .entry)) (now (table .entry)) found (r .index) (r .extra) ⌝ }
 {
     let mut offsets: [usize; 1024] = [0; 1024];
     let mut count: usize = 0;
+    let Found::At(i) = found else {
+        return Filled {
+            index: Index {
+                offsets: offsets,
+                count: count,
+            },
+            extra: Found::Nothing,
+        };
+    };
+    if !nodes::is_object(text, table, i) {
+        return Filled {
+            index: Index {
+                offsets: offsets,
+                count: count,
+            },
+            extra: Found::Nothing,
+        };
+    }
     let n = nodes::next(table, i);
     let mut k = i + 3;
     while k < n {
@@ -488,7 +708,7 @@ fn fill_index(text: &[u8], table: &[u32], i: usize) -> Filled
 // Rule 9: more than 1,024 city objects, at the name of the 1,025th.
 fn too_many(text: &[u8], table: &[u32], extra: Found, best: u32) -> u32
     requires { ⌜ Named (now text) (now table) extra ⌝ }
-    ensures { λ r. ⌜ ((ms : List Member) → Extra (now (text .entry)) (now (table .entry)) ms extra → r ≡ least best (nameFault ms)) ⌝ }
+    ensures { λ r. ⌜ Limited (now (text .entry)) (now (table .entry)) extra best r ⌝ }
 {
     let Found::At(k) = extra else {
         return best;
@@ -511,40 +731,67 @@ fn each_object(text: &[u8], table: &[u32], i: usize, vertices: usize, best: u32)
     least
 }
 
-// The city objects: an object (7) of at most 1,024 (9) of them. It fills the index.
-fn city_objects(text: &[u8], table: &[u32], found: Found, vertices: usize, best: u32) -> Walked
-    requires { ⌜ Sought (now text) (now table) found ⌝ }
-    ensures { λ r. ⌜ GivesFound (λ o. least best (on (schema.cityObjects vertices) o)) (now (text .entry)) (now (table .entry)) found (r .least) ⌝ }
-    ensures { λ r. ⌜ IndexedFound (now (text .entry)) (now (table .entry)) found (r .index) ⌝ }
+// The city objects: an object (7) of at most 1,024 (9) of them, of which the name of the next is known.
+fn city_objects_at(
+    text: &[u8],
+    table: &[u32],
+    i: usize,
+    extra: Found,
+    vertices: usize,
+    best: u32,
+) -> u32
+    requires { ⌜ (Node (now text) (now table) i) × (ExtraAt (now text) (now table) i extra) ⌝ }
+    ensures { λ r. ⌜ Checked (schema.cityObjects vertices) (now (text .entry)) (now (table .entry)) i best r ⌝ }
 {
-    let Found::At(i) = found else {
-        return Walked {
-            index: Index {
-                offsets: [0; 1024],
-                count: 0,
-            },
-            least: best,
-        };
-    };
     if !nodes::is_object(text, table, i) {
-        let kind = shapes::object(text, table, i, best);
-        return Walked {
-            index: Index {
-                offsets: [0; 1024],
-                count: 0,
-            },
-            least: kind,
-        };
+        return shapes::object(text, table, i, best);
     }
-    let filled = fill_index(text, table, i);
-    let index = filled.index;
-    let extra = filled.extra;
     let a = too_many(text, table, extra, best);
-    let b = each_object(text, table, i, vertices, a);
-    Walked {
-        index: index,
-        least: b,
-    }
+    each_object(text, table, i, vertices, a)
+}
+
+// The city objects that were found, which are needed.
+fn city_objects(
+    text: &[u8],
+    table: &[u32],
+    i: usize,
+    found: Found,
+    extra: Found,
+    vertices: usize,
+    best: u32,
+) -> u32
+    requires { ⌜ (MemberFound (ascii "CityObjects") (now text) (now table) i found) × (ExtraFound (now text) (now table) found extra) ⌝ }
+    ensures { λ r. ⌜ Checked (required (ascii "CityObjects") (schema.cityObjects vertices)) (now (text .entry)) (now (table .entry)) i best r ⌝ }
+{
+    let a = shapes::need(found, text, table, i, best);
+    let Found::At(k) = found else {
+        return a;
+    };
+    city_objects_at(text, table, k, extra, vertices, a)
+}
+
+// The city objects that were found, over the vertices, and these.
+fn town(text: &[u8], table: &[u32], objects: Found, extra: Found, best: u32) -> u32
+    requires { ⌜ (MemberFound (ascii "CityObjects") (now text) (now table) 0 objects) × (ExtraFound (now text) (now table) objects extra) ⌝ }
+    ensures { λ r. ⌜ Checked (all (says.objects ∷ required (ascii "vertices") schema.vertices ∷ []))
+        (now (text .entry)) (now (table .entry)) 0 best r ⌝ }
+{
+    let points = nodes::member(text, table, 0, b"vertices");
+    let count = fields::count_found(text, table, points);
+    let a = city_objects(text, table, 0, objects, extra, count, best);
+    vertices(text, table, 0, points, a)
+}
+
+// A root of the type `CityJSON`, whose city objects were found.
+fn city_json(text: &[u8], table: &[u32], objects: Found, extra: Found, best: u32) -> u32
+    requires { ⌜ (MemberFound (ascii "CityObjects") (now text) (now table) 0 objects) × (ExtraFound (now text) (now table) objects extra) ⌝ }
+    ensures { λ r. ⌜ Checked cityJson (now (text .entry)) (now (table .entry)) 0 best r ⌝ }
+{
+    let a = shapes::object(text, table, 0, best);
+    let b = required_word(text, table, 0, b"type", b"CityJSON", a);
+    let c = required_word(text, table, 0, b"version", b"2.0", b);
+    let d = transform(text, table, 0, c);
+    town(text, table, objects, extra, d)
 }
 
 // The root, and the index of its city objects.
@@ -553,27 +800,13 @@ pub fn root(text: &[u8], table: &[u32], best: u32) -> Walked
     ensures { λ r. ⌜ Gives (λ v. least best (cityJson v)) (now (text .entry)) (now (table .entry)) 0 (r .least) ⌝ }
     ensures { λ r. ⌜ IndexedAt (now (text .entry)) (now (table .entry)) (r .index) ⌝ }
 {
-    let kind = nodes::member(text, table, 0, b"type");
-    let version = nodes::member(text, table, 0, b"version");
-    let frame = nodes::member(text, table, 0, b"transform");
     let objects = nodes::member(text, table, 0, b"CityObjects");
-    let points = nodes::member(text, table, 0, b"vertices");
-    let a = shapes::object(text, table, 0, best);
-    let b = shapes::need(kind, text, table, 0, a);
-    let c = shapes::need(version, text, table, 0, b);
-    let d = shapes::need(frame, text, table, 0, c);
-    let e = shapes::need(objects, text, table, 0, d);
-    let f = shapes::need(points, text, table, 0, e);
-    let g = one_word(text, table, kind, b"CityJSON", f);
-    let h = one_word(text, table, version, b"2.0", g);
-    let l = transform(text, table, frame, h);
-    let count = fields::count_found(text, table, points);
-    let walked = city_objects(text, table, objects, count, l);
-    let index = walked.index;
-    let m = walked.least;
-    let n = found_vertices(text, table, points, m);
+    let filled = fill_index(text, table, objects);
+    let index = filled.index;
+    let extra = filled.extra;
+    let least = city_json(text, table, objects, extra, best);
     Walked {
         index: index,
-        least: n,
+        least: least,
     }
 }

@@ -1,17 +1,17 @@
 -- `schema::need_lod` meets its contract.
 use Rattle.utf8.specs.Ascii.{ascii}
 use Rattle.words.specs.Words.{is}
-use Rattle.schema.proofs.GeometryLaws.{geometric, lod-spared, lod-needed}
+use Rattle.schema.proofs.GeometryLaws.{geometric}
 use Rattle.schema.proofs.need_lod.Statement.{statement}
 use Rattle.schema.proofs.need_lod.Tie as tie
 
 returns : tie.Need-returns
 unfolding is ascii
-returns c = lod-spared _ (c .before .found-word .ensures) (c .if1 .taken)
+returns c = search geometric
 
 returns-2 : tie.Need-returns-2
 unfolding is ascii
-returns-2 c = lod-needed _ (c .before .before .found-word .ensures) (c .before .if1 .left) (c .need .ensures)
+returns-2 c = search geometric
 
 pub need-lod-spec : {M : Type 1} → statement M
 need-lod-spec = tie.close (tie.spec (λ c. search geometric) (λ c κs. search geometric) returns (λ c κs. search geometric) returns-2)

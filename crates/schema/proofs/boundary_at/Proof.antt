@@ -1,0 +1,10 @@
+-- `schema::boundary_at` meets its contract.
+use Rattle.schema.proofs.GeometryLaws.{outlines}
+use Rattle.schema.proofs.boundary_at.Statement.{statement}
+use Rattle.schema.proofs.boundary_at.Tie as tie
+
+pub boundary-at-spec : {M : Type 1} → statement M
+boundary-at-spec =
+    tie.close
+    (tie.spec
+    (λ c κs. search outlines) (λ c. search outlines) (λ c κs. search outlines) (λ c κs. search outlines) (λ c. search outlines))

@@ -1,0 +1,11 @@
+-- `schema::object_type_at` meets its contract.
+use Rattle.schema.proofs.Strings.{strings}
+use Rattle.schema.proofs.object_type_at.Statement.{statement}
+use Rattle.schema.proofs.object_type_at.Tie as tie
+
+pub object-type-at-spec : {M : Type 1} → statement M
+object-type-at-spec =
+    tie.close
+    (tie.spec
+    (λ c κs. search strings) (λ c κs. search strings) (λ c. search strings) (λ c. search strings) (λ c κs. search strings) (λ c κs. search strings)
+    (λ c. search strings) (λ c κs. search strings) (λ c. search strings))

@@ -1,0 +1,16 @@
+-- `schema::parents` meets its contract.
+use Rattle.utf8.specs.Ascii.{ascii}
+use Rattle.schema.proofs.Lines.{lines}
+use Rattle.schema.proofs.parents.Statement.{statement}
+use Rattle.schema.proofs.parents.Tie as tie
+
+returns : tie.Need-returns
+unfolding ascii
+returns c = search lines
+
+returns-2 : tie.Need-returns-2
+unfolding ascii
+returns-2 c = search lines
+
+pub parents-spec : {M : Type 1} → statement M
+parents-spec = tie.close (tie.spec (λ c. search lines) (λ c κs. search lines) (λ c. search lines) (λ c. search lines) returns (λ c κs. search lines) returns-2)

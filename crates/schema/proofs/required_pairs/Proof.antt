@@ -1,0 +1,11 @@
+-- `schema::required_pairs` meets its contract.
+use Rattle.schema.proofs.Strings.{arrayed}
+use Rattle.schema.proofs.required_pairs.Statement.{statement}
+use Rattle.schema.proofs.required_pairs.Tie as tie
+
+pub required-pairs-spec : {M : Type 1} → statement M
+required-pairs-spec =
+    tie.close
+    (tie.spec
+    (λ c κs. search arrayed) (λ c κs. search arrayed) (λ c. search arrayed) (λ c. search arrayed) (λ c. search arrayed) (λ c κs. search arrayed)
+    (λ c. search arrayed))

@@ -1,0 +1,12 @@
+-- `schema::values_at` meets its contract.
+use Rattle.schema.specs.Schema as schema
+use Rattle.schema.proofs.Lines.{lines}
+use Rattle.schema.proofs.values_at.Statement.{statement}
+use Rattle.schema.proofs.values_at.Tie as tie
+
+returns : tie.Need-returns
+unfolding schema.values
+returns c = record { is = λ o f. search (lines, c .over-outline .ensures .is o f) }
+
+pub values-at-spec : {M : Type 1} → statement M
+values-at-spec = tie.close (tie.spec (λ c κs. search lines) (λ c κs. search lines) returns)
