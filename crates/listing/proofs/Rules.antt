@@ -1,7 +1,7 @@
 -- What the functions of the crate leave: bytes copied, a number's digits, a line.
 use mathlib.Core.Path.{_≡_, refl, sym, ap, _∙_}
 use mathlib.Core.Bool.{Bool, true, false}
-use mathlib.Core.List.{List, [], _∷_, _++_}
+use mathlib.Core.List.{List, [], _∷_, _++_, append-assoc}
 use Prim.Native.Nat.{ℕ, zero, suc, _+_, _*_, _-_, _/_, _%_, _^_, _≤_, _<_}
 use native.Mathlib.Omega.{arith}
 use native.Mathlib.Numerals.{add-one}
@@ -13,7 +13,6 @@ use borrow.Author.Needs.{needs}
 use borrow.Author.Tests.{lt-ltb, le-ltb, leb-true, leb-false}
 use Rattle.io.specs.Counts.{Counts}
 use Rattle.io.specs.Digits.{glyph, digits, Fewest}
-use Rattle.utf8.specs.Ascii.{ascii}
 use Rattle.sheets.specs.Laid.{answer, laid, refused}
 use Rattle.refusals.specs.Refusals.{ruleNumber}
 use Rattle.refusals.specs.declared.Refusal.{Refusal}
@@ -21,8 +20,9 @@ use Rattle.laying.specs.declared.Answer.{Answer}
 use Rattle.laying.specs.declared.Answer.the-variants.{Laid, Refused}
 use Rattle.laying.specs.Laying.{answered}
 use Rattle.writer.specs.Writes.{Writes, Skips}
-use Rattle.writer.specs.Laws.{then}
-use Rattle.listing.specs.Line.{spelled, decimalDigits, lineOf, Spells, Lists}
+use Rattle.writer.specs.Laws.{then, as-bytes}
+use Rattle.listing.specs.Line.{spelled, decimalDigits, lineOf}
+use Rattle.listing.specs.Says.{phrased, Spells, Phrases, Lists}
 
 -- ---- bytes
 
@@ -116,30 +116,25 @@ spell n k ds l h f e w =
 
 -- ---- lines
 
--- two numbers among words that are short enough for the room
-pub line-of : (a b c : List ℕ) {m n : ℕ} {d₀ d₁ d₂ d₃ d₄ d : List ℕ} {p q s t r : ℕ} → length a + length b + length c ≤ 24 → length d₀ ≡ 64
-    → Writes a d₀ d₁ 0 p → Spells m d₁ d₂ p q → Writes b d₂ d₃ q s → Spells n d₃ d₄ s t → Writes c d₄ d t r
-    → Lists (a ++ decimalDigits m ++ b ++ decimalDigits n ++ c) d₀ d r
-line-of a b c {m} {n} {d₀} {r = r} fit room f g h i j =
-    let all = then (then (then (then f (g .writes)) h) (i .writes)) j in
-    let ws : List ℕ = a ++ decimalDigits m ++ b ++ decimalDigits n ++ c in
-    let size : length ws ≡ length a + length (decimalDigits m) + length b + length (decimalDigits n) + length c = simp length-append in
-    let short : length ws ≤ 64 = omega (arith, g .short, i .short) in
+-- a number after some words
+pub phrase-of : {ws d₀ d₁ d : List ℕ} {n to q r : ℕ} → Writes ws d₀ d₁ to q → Spells n d₁ d q r → Phrases ws n d₀ d to r
+phrase-of f g = record { writes = then f (g .writes); short = g .short }
+
+-- two of them, with words that are short enough for the room
+pub line-of : {a b : List ℕ} {m n : ℕ} {d₀ d₁ d₂ d : List ℕ} {p q r : ℕ} → length a + length b ≤ 23 → length d₀ ≡ 64
+    → Phrases a m d₀ d₁ 0 p → Phrases b n d₁ d₂ p q → Writes (10 ∷ []) d₂ d q r → Lists (phrased a m b n) d₀ d r
+unfolding phrased
+line-of {a} {b} {m} {n} {d₀} {r = r} fit room f g h =
+    let ws : List ℕ = a ++ decimalDigits m ++ b ++ decimalDigits n ++ (10 ∷ []) in
+    let all = as-bytes (ap (λ l. l ++ (10 ∷ [])) (sym (append-assoc (a ++ decimalDigits m) b (decimalDigits n)))) (then (then (f .writes) (g .writes)) h) in
+    let size : length ws ≡ length a + length (decimalDigits m) + length b + length (decimalDigits n) + 1 = simp length-append in
+    let short : length ws ≤ 64 = omega (arith, f .short, g .short) in
     let ends : r ≡ length ws = omega (arith, all .ends) in
     record {
       size = ends;
       bytes = all .wrote (omega arith) (omega arith) ∙ sets-eq ws d₀ 0 (omega arith) ∙ rw (zero-add, ends) refl;
       within = omega (arith, all .room);
     }
-
-module _ {a b c d₀ d₁ d₂ d₃ d₄ d : List ℕ} {m n p q s t r : ℕ} (room : length d₀ ≡ 64) (f : Writes a d₀ d₁ 0 p) (g : Spells m d₁ d₂ p q) (h : Writes b d₂ d₃ q s) (i : Spells n d₃ d₄ s t) (j : Writes c d₄ d t r) where
-  pub laid-of : a ≡ ascii "laid " → b ≡ ascii " bytes, objects " → c ≡ 10 ∷ [] → Lists (lineOf (laid m n)) d₀ d r
-  unfolding lineOf
-  laid-of x y z = line-of (ascii "laid ") (ascii " bytes, objects ") (10 ∷ []) (omega arith) room (rw x at f) g (rw y at h) i (rw z at j)
-
-  pub refused-of : a ≡ ascii "refused " → b ≡ ascii " at " → c ≡ 10 ∷ [] → Lists (lineOf (refused m n)) d₀ d r
-  unfolding lineOf
-  refused-of x y z = line-of (ascii "refused ") (ascii " at ") (10 ∷ []) (omega arith) room (rw x at f) g (rw y at h) i (rw z at j)
 
 -- ---- answers
 
@@ -159,4 +154,4 @@ listed x a {d₀} {d} {r} e l =
     let m = rw e at l in
     (m .size, (m .bytes, (m .within, sym (length-take-le r d (m .within)))))
 
-pub ruleset lists = (needs, put-start, put-turn, put-all, put-none, line-laid, line-refused)
+pub ruleset lists = (needs, put-start, put-turn, put-all, put-none, spell, phrase-of, line-of, line-laid, line-refused)

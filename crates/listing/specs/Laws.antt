@@ -23,7 +23,8 @@ unfolding digitsValue spelled
 digitsValue-spelled zero n h = omega arith
 digitsValue-spelled (suc more) n h = by-test (ltb n 10) refl (λ l. digitsValue-spelled more (n / 10) l)
   where
-    by-test : (y : Bool) → ltb n 10 ≡ y → (n / 10 ≤ more → digitsValue 0 (spelled more (n / 10)) ≡ n / 10) → digitsValue 0 (elim y [ true ↦ (48 + n) ∷ [] | false ↦ spelled more (n / 10) ++ ((48 + n % 10) ∷ []) ]) ≡ n
+    by-test : (y : Bool) → ltb n 10 ≡ y → (n / 10 ≤ more → digitsValue 0 (spelled more (n / 10)) ≡ n / 10)
+        → digitsValue 0 (elim y [ true ↦ (48 + n) ∷ [] | false ↦ spelled more (n / 10) ++ ((48 + n % 10) ∷ []) ]) ≡ n
     by-test true e tens = omega arith
     by-test false e tens =
         let high = ltb-false n 10 e in

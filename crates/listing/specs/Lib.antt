@@ -1,3 +1,4 @@
 pub mod Line
+pub mod Says
 pub mod Laws
 pub mod Examples

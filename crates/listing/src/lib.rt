@@ -1,5 +1,5 @@
 // The line that the lister prints for a text.
-ghost use Prim.Native.Nat.{_+_};
+ghost use Prim.Native.Nat.{_+_, _≤_};
 ghost use mathlib.Core.Path.{_≡_};
 ghost use mathlib.Core.List.{_++_};
 ghost use lib.ListN.{length, drop};
@@ -7,7 +7,8 @@ ghost use Rattle.io.specs.Counts.{Counts};
 ghost use Rattle.sheets.specs.Laid.{answer, laid, refused};
 ghost use Rattle.laying.specs.Laying.{answered};
 ghost use Rattle.writer.specs.Writes.{Writes};
-ghost use Rattle.listing.specs.Line.{lineOf, Spells, Lists};
+ghost use Rattle.listing.specs.Line.{lineOf};
+ghost use Rattle.listing.specs.Says.{phrased, Spells, Phrases, Lists};
 use laying::Answer;
 
 // Writes bytes from a cursor on, as the functions of `writer` do.
@@ -35,28 +36,43 @@ fn number(n: u64, out: &mut [u8], at: usize) -> usize
     put(&digits[..k], out, at)
 }
 
+// Writes some words and a number.
+fn phrase(words: &[u8], n: u64, out: &mut [u8], at: usize) -> usize
+    ensures { λ r. ⌜ Phrases (now (words .entry)) n (now (out .entry)) (now (out .exit)) at r ⌝ }
+{
+    let next = put(words, out, at);
+    number(n, out, next)
+}
+
+// A line of two phrases, whose words are short enough for the room.
+fn two_phrases(first: &[u8], m: u64, second: &[u8], n: u64, out: &mut [u8; 64]) -> usize
+    requires { ⌜ length (now first) + length (now second) ≤ 23 ⌝ }
+    ensures { λ r. ⌜ Lists (phrased (now (first .entry)) m (now (second .entry)) n) (now (out .entry)) (now (out .exit)) r ⌝ }
+{
+    let room: &mut [u8] = out;
+    let middle = phrase(first, m, room, 0);
+    let end = phrase(second, n, room, middle);
+    put(b"\n", room, end)
+}
+
 // The line of a text that is laid.
 fn laid_line(size: usize, objects: usize, out: &mut [u8; 64]) -> usize
     ensures { λ r. ⌜ Lists (lineOf (laid size objects)) (now (out .entry)) (now (out .exit)) r ⌝ }
 {
-    let room: &mut [u8] = out;
-    let a = put(b"laid ", room, 0);
-    let b = number(size as u64, room, a);
-    let c = put(b" bytes, objects ", room, b);
-    let d = number(objects as u64, room, c);
-    put(b"\n", room, d)
+    two_phrases(
+        b"laid ",
+        size as u64,
+        b" bytes, objects ",
+        objects as u64,
+        out,
+    )
 }
 
 // The line of a text that is refused.
 fn refused_line(rule: u32, place: usize, out: &mut [u8; 64]) -> usize
     ensures { λ r. ⌜ Lists (lineOf (refused rule place)) (now (out .entry)) (now (out .exit)) r ⌝ }
 {
-    let room: &mut [u8] = out;
-    let a = put(b"refused ", room, 0);
-    let b = number(rule as u64, room, a);
-    let c = put(b" at ", room, b);
-    let d = number(place as u64, room, c);
-    put(b"\n", room, d)
+    two_phrases(b"refused ", rule as u64, b" at ", place as u64, out)
 }
 
 // The line of an answer.
@@ -72,7 +88,8 @@ fn line(answer: Answer, out: &mut [u8; 64]) -> usize
     }
 }
 
-// Lays a text in a sheet of 65,536 bytes, puts the line that says what became of it at the start of out, and answers the line's length. The bytes after the line are as they were.
+// Lays a text in a sheet of 65,536 bytes, puts the line that says what became of it at the start of out, and answers the line's length.
+// The bytes after the line are as they were.
 pub fn list(text: &[u8], out: &mut [u8; 64]) -> usize
     ensures { λ r. ⌜ r ≡ length (lineOf (answer (now (text .entry)) 65536)) ⌝ }
     ensures { λ r. ⌜ now (out .exit) ≡ lineOf (answer (now (text .entry)) 65536) ++ drop r (now (out .entry)) ⌝ }

@@ -53,7 +53,8 @@ pub as-bytes : {a b d₀ d : List ℕ} {to r : ℕ} → a ≡ b → Writes a d�
 as-bytes e w = rw e at w
 
 -- a number before bytes that stand there already
-pub numbered : (n : ℕ) {at body end q : ℕ} {ws d₀ d₁ d₂ : List ℕ} → Skips 4 at body → Writes ws d₀ d₁ body end → Writes (le 4 n) d₁ d₂ at q → Writes (le 4 n ++ ws) d₀ d₂ at end
+pub numbered : (n : ℕ) {at body end q : ℕ} {ws d₀ d₁ d₂ : List ℕ} → Skips 4 at body → Writes ws d₀ d₁ body end → Writes (le 4 n) d₁ d₂ at q
+    → Writes (le 4 n ++ ws) d₀ d₂ at end
 numbered n {at} {body} {end} {q} {ws} {d₀} {d₁} {d₂} s p w =
     let four = length-le 4 n in
     let all = length-append (le 4 n) ws in

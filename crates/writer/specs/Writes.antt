@@ -9,7 +9,8 @@ use lib.IntN.{ℤ, pos, negsuc}
 use Rattle.model.specs.Model.{layRec, rec}
 
 -- The bytes ws were to be written from `to` on, and the cursor is r afterwards. Cursors from 2^63 on are all alike.
--- The sheet was d₀ and is d: if the bytes fit, they were set there, one after the other. If they do not, a part of them may have been set: d is then free, but for its length.
+-- The sheet was d₀ and is d: if the bytes fit, they were set there, one after the other. If they do not, a part of them may have been set:
+-- d is then free, but for its length.
 pub record Writes (ws d₀ d : List ℕ) (to r : ℕ) : Type 0 where
   pub ends : min r (2 ^ 63) ≡ min (to + length ws) (2 ^ 63)
   pub onward : to ≤ r
@@ -26,7 +27,8 @@ pub record Skips (n to r : ℕ) : Type 0 where
   pub ends : min r (2 ^ 63) ≡ min (to + n) (2 ^ 63)
   pub onward : to ≤ r
 
--- A header was written at `at`, six bytes before `body`: whatever payload was written from `body` to `end`, there is now a record of that kind from `at` to `end`.
+-- A header was written at `at`, six bytes before `body`: whatever payload was written from `body` to `end`, there is now a record of that kind
+-- from `at` to `end`.
 pub record Closes (kind at body end : ℕ) (d d′ : List ℕ) : Type 0 where
   pub closes : (payload d₀ : List ℕ) → Writes payload d₀ d body end → Writes (layRec (rec kind payload)) d₀ d′ at end
 

@@ -1,4 +1,5 @@
-// Writes numbers and strings to a lent sheet. A place in the sheet is a cursor, which may lie past the sheet's end: a number or a string that does not fit is counted and not written.
+// Writes numbers and strings to a lent sheet. A place in the sheet is a cursor, which may lie past the sheet's end:
+// a number or a string that does not fit is counted and not written.
 ghost use Prim.Native.Nat.{_+_, _^_, _≤_, _<_};
 ghost use mathlib.Core.Path.{_≡_};
 ghost use lib.ListN.{length, replicate};

@@ -5,12 +5,5 @@ use Rattle.listing.proofs.line.Tie as tie
 
 pub line-spec : {M : Type 1} → statement M
 line-spec =
-    tie.close
-    (tie.spec
-    (λ c. search lists)
-    (λ c κs. search lists)
-    (λ c. search lists)
-    (λ c κs. search lists)
-    (λ c κs. search lists)
-    (λ c. search lists)
-    (λ c. search lists))
+    tie.close (tie.spec (λ c. search lists) (λ c κs. search lists) (λ c. search lists) (λ c κs. search lists) (λ c κs. search lists)
+    (λ c. search lists) (λ c. search lists))

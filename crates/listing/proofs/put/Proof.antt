@@ -13,18 +13,5 @@ abbrev μ-loop : tie.MeasureT-loop
 
 pub put-spec : {M : Type 1} → statement M
 put-spec =
-    tie.close
-    (tie.spec
-    Inv-loop
-    μ-loop
-    (λ c κs. search lists)
-    (λ c. search lists)
-    (λ c. search lists)
-    (λ c. search lists)
-    (λ c. search lists)
-    (λ c. search lists)
-    (λ c. search lists)
-    (λ c. search lists)
-    (λ c. search lists)
-    (λ c. search lists)
-    (λ c. search lists))
+    tie.close (tie.spec Inv-loop μ-loop (λ c κs. search lists) (λ c. search lists) (λ c. search lists) (λ c. search lists) (λ c. search lists)
+    (λ c. search lists) (λ c. search lists) (λ c. search lists) (λ c. search lists) (λ c. search lists) (λ c. search lists))
