@@ -1,19 +1,17 @@
 -- How many elements of an array a loop has passed.
 use Prim.Native.Nat.{ℕ, _+_, _-_, _*_, _^_, _≤_, _<_}
 use native.Mathlib.Omega.{arith}
-use mathlib.Core.Path.{_≡_, sym, _∙_}
-use mathlib.Core.Bool.{Bool, false, not}
+use mathlib.Core.Path.{_≡_, ap}
 use mathlib.Core.List.{List}
 use lib.ListN.{length, getD}
 use mir.Syntax.{w64}
 use mir.Val.{Fits}
-use borrow.Author.Tests.{not-false}
 use Rattle.json.specs.Tree.{Json}
 use Rattle.json.specs.Table.{Sub}
 use Rattle.json.specs.Laws.{Left, past, over, ended}
-use Rattle.nodes.specs.Access.{isArrayValue, listed, elements}
+use Rattle.nodes.specs.Access.{listed, elements}
 use Rattle.nodes.specs.Says.{Node, Gives}
-use Rattle.nodes.specs.Laws.{elements-begin}
+use Rattle.arrays.specs.Says.{Ends}
 
 -- c elements of the array at i stand before the node k
 pub record Counting (x t : List ℕ) (i n k c : ℕ) : Type 0 where
@@ -22,8 +20,12 @@ pub record Counting (x t : List ℕ) (i n k c : ℕ) : Type 0 where
   pub left : (v : Json) → Sub x t i v → Left x t k n (λ us. c + length (listed us) ≡ length (elements v))
 
 module _ {x t : List ℕ} {i : ℕ} where
-  pub counting-start : {b : Bool} {n : ℕ} → Node x t i → Gives isArrayValue x t i b → not b ≡ false → n ≡ getD t (i + 2) 0 → Counting x t i n (i + 3) 0
-  counting-start {b} d g e q = record { node = d; low = omega arith; left = λ v s. rw q (elements-begin (λ us. 0 + length us ≡ length (elements v)) s (sym (g .is v s) ∙ not-false b e) (omega arith)) }
+  pub counting-start : {n : ℕ} → Node x t i → Ends x t i n → Counting x t i n (i + 3) 0
+  counting-start d e = record {
+    node = d;
+    low = omega arith;
+    left = λ v s. let l = e .left v s in record { items = l .items; stand = l .stand; ends = l .ends; holds = omega (arith, ap length (l .holds)) };
+  }
 
   module _ {n k c : ℕ} (p : Counting x t i n k c) where
     pub counting-fits : k < n → length t * 4 < 2 ^ 63 → Fits w64 (c + 1)

@@ -8,8 +8,8 @@ use mathlib.Core.Option.{Option, some}
 use mathlib.Core.Option as option
 use lib.ListN.{length, getD}
 use borrow.Author.Tests.{not-true, not-false}
-use Rattle.json.specs.Tree.{Json}
-use Rattle.json.specs.Table.{Sub}
+use Rattle.json.specs.Tree.{Json, noItems}
+use Rattle.json.specs.Table.{sizes, Sub, nil}
 use Rattle.json.specs.Laws.{Left, Past, past, over, ended}
 use Rattle.nodes.specs.Access.{isArrayValue, listed, elements}
 use Rattle.nodes.specs.Says.{Node, Finds, Gives}
@@ -20,8 +20,8 @@ use Rattle.model.specs.Code.{concatMap, All}
 use Rattle.writer.specs.Writes.{Writes}
 use Rattle.writer.specs.Laws.{nothing, then}
 use Rattle.arrays.specs.Fits.{Elements}
-use Rattle.arrays.specs.Says.{Holds, Wrote, WroteFound}
-use Rattle.arrays.specs.Unique.{unique}
+use Rattle.arrays.specs.Says.{Holds, Ends, Wrote, WroteFound}
+use Rattle.nodes.specs.Unique.{unique}
 
 -- ---- what stands at a node
 
@@ -50,7 +50,8 @@ module _ {x t : List ℕ} {i : ℕ} {d₀ d : List ℕ} {to r : ℕ} where
   wrote-as e w = record { is = λ v s. rw (e v s) at (w .is v s) }
 
 -- one after the other
-pub wrote-then : {x t : List ℕ} {i : ℕ} {d₀ d₁ d₂ : List ℕ} {to q r : ℕ} {f g : Json → List ℕ} → Wrote f x t i d₀ d₁ to q → Wrote g x t i d₁ d₂ q r → Wrote (λ v. f v ++ g v) x t i d₀ d₂ to r
+pub wrote-then : {x t : List ℕ} {i : ℕ} {d₀ d₁ d₂ : List ℕ} {to q r : ℕ} {f g : Json → List ℕ} → Wrote f x t i d₀ d₁ to q → Wrote g x t i d₁ d₂ q r
+    → Wrote (λ v. f v ++ g v) x t i d₀ d₂ to r
 wrote-then u w = record { is = λ v s. then (u .is v s) (w .is v s) }
 
 -- ---- a loop over the elements of an array
@@ -69,22 +70,46 @@ pub record Laying (P : Json → Type 0) (f : Json → List ℕ) (x t : List ℕ)
   pub left : (v : Json) → Sub x t i v → Left x t k n (λ us. Rest P f (concatMap f (elements v)) d₀ d to at (listed us))
 
 -- where there is no array
-pub laying-none : (f : Json → List ℕ) {x t : List ℕ} {i : ℕ} {b : Bool} {d : List ℕ} {to : ℕ} → Gives isArrayValue x t i b → not b ≡ true → Wrote (λ v. concatMap f (elements v)) x t i d d to to
+pub laying-none : (f : Json → List ℕ) {x t : List ℕ} {i : ℕ} {b : Bool} {d : List ℕ} {to : ℕ} → Gives isArrayValue x t i b → not b ≡ true
+    → Wrote (λ v. concatMap f (elements v)) x t i d d to to
 unfolding concatMap
 laying-none f {b = b} g e = wrote-nothing (λ v s. ap (concatMap f) (no-elements v (sym (g .is v s) ∙ not-true b e)))
 
+-- the end of the elements of an array, and of a value that has none
+module _ {x t : List ℕ} {i : ℕ} {b : Bool} (g : Gives isArrayValue x t i b) where
+  pub ends-array : {n : ℕ} → b ≡ true → n ≡ getD t (i + 2) 0 → Ends x t i n
+  ends-array e q = record { left = λ v s. rw q (elements-begin (λ us. us ≡ elements v) s (sym (g .is v s) ∙ e) refl) }
+
+  pub ends-none : b ≡ false → Ends x t i (i + 3)
+  unfolding sizes listed
+  ends-none e = record { left = λ v s. record { items = noItems; stand = nil; ends = omega arith; holds = sym (no-elements v (sym (g .is v s) ∙ e)) } }
+
 module _ {P : Json → Type 0} {f : Json → List ℕ} {x t : List ℕ} {i : ℕ} where
-  pub laying-start : {b : Bool} {n : ℕ} {d : List ℕ} {to : ℕ} → Holds (Elements P) x t i → Gives isArrayValue x t i b → not b ≡ false → n ≡ getD t (i + 2) 0 → Laying P f x t i n (i + 3) d d to to
+  pub laying-begin : {n : ℕ} {d : List ℕ} {to : ℕ} → Holds (Elements P) x t i → Ends x t i n → Laying P f x t i n (i + 3) d d to to
   unfolding Elements
-  laying-start {b} {n} {d} {to} h g e q = record {
+  laying-begin {n} {d} {to} h e = record {
     node = h .node;
     room = refl;
-    left = λ v s. rw q (elements-begin (Rest P f (concatMap f (elements v)) d d to to) s (sym (g .is v s) ∙ not-false b e) (record { done = []; all-is = refl; wrote = nothing d to; good = h .holds v s }));
+    left = λ v s.
+        let l = e .left v s in
+        record {
+          items = l .items;
+          stand = l .stand;
+          ends = l .ends;
+          holds = rw (l .holds) (record { done = []; all-is = refl; wrote = nothing d to; good = h .holds v s });
+        };
   }
+
+  pub laying-start : {b : Bool} {n : ℕ} {d : List ℕ} {to : ℕ} → Holds (Elements P) x t i → Gives isArrayValue x t i b → not b ≡ false → n ≡ getD t (i + 2) 0
+      → Laying P f x t i n (i + 3) d d to to
+  laying-start {b} h g e q = laying-begin h (ends-array g (not-false b e) q)
 
   module _ {n k : ℕ} {d₀ d : List ℕ} {to at : ℕ} (p : Laying P f x t i n k d₀ d to at) where
     here : k < n → Past x t k n (λ us. Rest P f (concatMap f (elements (p .node .value))) d₀ d to at (listed us))
     here l = past (p .left (p .node .value) (p .node .stands)) l
+
+    pub laying-same : length d ≡ length d₀
+    laying-same = p .room
 
     -- the element at k
     pub laying-item : k < n → Holds P x t k
@@ -105,7 +130,12 @@ module _ {P : Json → Type 0} {f : Json → List ℕ} {x t : List ℕ} {i : ℕ
       left = λ v s.
           let u = past (p .left v s) l in
           let h = u .holds in
-          rw q (over u (record { done = h .done ++ f (u .value); all-is = h .all-is ∙ sym (append-assoc (h .done) (f (u .value)) (concatMap f (listed (u .others)))); wrote = then (h .wrote) (w .is (u .value) (u .stands)); good = h .good .1 }));
+          rw q (over u (record {
+            done = h .done ++ f (u .value);
+            all-is = h .all-is ∙ sym (append-assoc (h .done) (f (u .value)) (concatMap f (listed (u .others))));
+            wrote = then (h .wrote) (w .is (u .value) (u .stands));
+            good = h .good .1;
+          }));
     }
 
     pub laying-done : n ≤ k → Wrote (λ v. concatMap f (elements v)) x t i d₀ d to at
@@ -115,7 +145,8 @@ module _ {P : Json → Type 0} {f : Json → List ℕ} {x t : List ℕ} {i : ℕ
 -- ---- what was found
 
 -- nothing was found
-pub wrote-none : {x t : List ℕ} {found : Found} {d : List ℕ} {to : ℕ} {f : Option Json → List ℕ} → found ≡ Nothing → f option.none ≡ [] → WroteFound f x t found d d to to
+pub wrote-none : {x t : List ℕ} {found : Found} {d : List ℕ} {to : ℕ} {f : Option Json → List ℕ} → found ≡ Nothing → f option.none ≡ []
+    → WroteFound f x t found d d to to
 unfolding Finds
 wrote-none {x} {t} {d = d} {to = to} {f = f} e z = record { is = λ o h. let q : o ≡ option.none = subst (Finds x t o) e h in rw (q, z) (nothing d to) }
 

@@ -32,19 +32,24 @@ each-map enc f [] = refl
 each-map enc f (a ∷ l) = ap (λ r. enc (f a) ++ r) (each-map enc f l)
 
 -- three elements are written one after the other
-pub three-each : {A : Type 0} (enc : A → List ℕ) (read : Json → A) (v : Json) → length (elements v) ≡ 3 → concatMap (λ w. enc (read w)) (elements v) ≡ layThree enc (threeOf read v)
+pub three-each : {A : Type 0} (enc : A → List ℕ) (read : Json → A) (v : Json) → length (elements v) ≡ 3
+    → concatMap (λ w. enc (read w)) (elements v) ≡ layThree enc (threeOf read v)
 unfolding layThree threeOf concatMap
 three-each enc read v h = go (elements v) h
   where
-    go : (l : List Json) → length l ≡ 3 → concatMap (λ w. enc (read w)) l ≡ enc (read (getD l 0 (null 0 0))) ++ enc (read (getD l 1 (null 0 0))) ++ enc (read (getD l 2 (null 0 0)))
+    go : (l : List Json) → length l ≡ 3
+        → concatMap (λ w. enc (read w)) l ≡ enc (read (getD l 0 (null 0 0))) ++ enc (read (getD l 1 (null 0 0))) ++ enc (read (getD l 2 (null 0 0)))
     go [] e = absurd (omega arith)
     go (a ∷ []) e = absurd (omega arith)
     go (a ∷ b ∷ []) e = absurd (omega arith)
-    go (a ∷ b ∷ c ∷ []) e = ap (λ l. enc (read a) ++ (enc (read b) ++ l)) (append-nil (enc (read c))) ∙ sym (append-assoc (enc (read a)) (enc (read b)) (enc (read c)))
+    go (a ∷ b ∷ c ∷ []) e =
+        ap (λ l. enc (read a) ++ (enc (read b) ++ l)) (append-nil (enc (read c)))
+        ∙ sym (append-assoc (enc (read a)) (enc (read b)) (enc (read c)))
     go (a ∷ b ∷ c ∷ d ∷ l) e = absurd (omega arith)
 
 -- an array of a boundary is its count and its elements
-pub nest-parts : (d : ℕ) (v : Json) → layNest (suc d) (nestOf indexOf (suc d) v) ≡ le 4 (length (elements v)) ++ concatMap (λ w. layNest d (nestOf indexOf d w)) (elements v)
+pub nest-parts : (d : ℕ) (v : Json)
+    → layNest (suc d) (nestOf indexOf (suc d) v) ≡ le 4 (length (elements v)) ++ concatMap (λ w. layNest d (nestOf indexOf d w)) (elements v)
 unfolding layNest nestOf
 nest-parts d v = λ i. le 4 (length-map (elements v) (nestOf indexOf d) i) ++ each-map (layNest d) (nestOf indexOf d) (elements v) i
 
@@ -62,7 +67,8 @@ pair-read (null p e) h = absurd (never (h .0) refl)
 pair-read (bool p e b) h = absurd (never (h .0) refl)
 pair-read (num p e raw) h = of (inRange (decimal raw)) refl (h .1)
   where
-    of : (b : Bool) → inRange (decimal raw) ≡ b → isSome (cond b (some (decimal raw)) option.none) ≡ true → (cond b (some (decimal raw)) option.none ≡ some (decimal raw)) × GoodDecimal (decimal raw)
+    of : (b : Bool) → inRange (decimal raw) ≡ b → isSome (cond b (some (decimal raw)) option.none) ≡ true
+        → (cond b (some (decimal raw)) option.none ≡ some (decimal raw)) × GoodDecimal (decimal raw)
     of true q g = (refl, pair-good (decimal raw) (rw q g))
     of false q g = absurd (never g refl)
 pair-read (str p e raw) h = absurd (never (h .0) refl)

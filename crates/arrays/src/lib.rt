@@ -7,10 +7,21 @@ ghost use Rattle.model.specs.Code.{signed, concatMap};
 ghost use Rattle.model.specs.Model.{layThree, layDecimal, layNest, layValue, layValues};
 ghost use Rattle.model.specs.Read.{decimalOf, integerOf, indexOf, valueOf, threeOf, nestOf};
 ghost use Rattle.nodes.specs.Access.{elements};
-ghost use Rattle.nodes.specs.Says.{Gives};
+ghost use Rattle.nodes.specs.Says.{Node, Gives};
 ghost use Rattle.arrays.specs.Fits.{Pair, Coordinate, Index, Value, Elements, Triple, Leaves};
-ghost use Rattle.arrays.specs.Says.{Holds, Wrote};
+ghost use Rattle.arrays.specs.Says.{Holds, Ends, Wrote};
 use shapes::Paired;
+
+// The node after the last element of a value: that of the first if it has none.
+pub fn elements_end(text: &[u8], table: &[u32], i: usize) -> usize
+    requires { ⌜ Node (now text) (now table) i ⌝ }
+    ensures { λ r. ⌜ Ends (now (text .entry)) (now (table .entry)) i r ⌝ }
+{
+    if nodes::is_array(text, table, i) {
+        return nodes::next(table, i);
+    }
+    i + 3
+}
 
 // A transform number: its pair.
 fn pair(text: &[u8], table: &[u32], i: usize, sheet: &mut [u8], at: usize) -> usize
@@ -30,12 +41,10 @@ fn pair(text: &[u8], table: &[u32], i: usize, sheet: &mut [u8], at: usize) -> us
 // `scale` or `translate`: three pairs.
 pub fn pairs(text: &[u8], table: &[u32], i: usize, sheet: &mut [u8], at: usize) -> usize
     requires { ⌜ Holds (Triple Pair) (now text) (now table) i ⌝ }
-    ensures { λ r. ⌜ Wrote (λ v. layThree layDecimal (threeOf decimalOf v)) (now (text .entry)) (now (table .entry)) i (now (sheet .entry)) (now (sheet .exit)) at r ⌝ }
+    ensures { λ r. ⌜ Wrote (λ v. layThree layDecimal (threeOf decimalOf v)) (now (text .entry)) (now (table .entry)) i
+        (now (sheet .entry)) (now (sheet .exit)) at r ⌝ }
 {
-    if !nodes::is_array(text, table, i) {
-        return at;
-    }
-    let n = nodes::next(table, i);
+    let n = elements_end(text, table, i);
     let mut o = at;
     let mut k = i + 3;
     while k < n {
@@ -63,12 +72,10 @@ fn coordinate(text: &[u8], table: &[u32], i: usize, sheet: &mut [u8], at: usize)
 // A vertex: three coordinates.
 fn vertex(text: &[u8], table: &[u32], i: usize, sheet: &mut [u8], at: usize) -> usize
     requires { ⌜ Holds (Triple Coordinate) (now text) (now table) i ⌝ }
-    ensures { λ r. ⌜ Wrote (λ v. layThree (signed 4) (threeOf integerOf v)) (now (text .entry)) (now (table .entry)) i (now (sheet .entry)) (now (sheet .exit)) at r ⌝ }
+    ensures { λ r. ⌜ Wrote (λ v. layThree (signed 4) (threeOf integerOf v)) (now (text .entry)) (now (table .entry)) i
+        (now (sheet .entry)) (now (sheet .exit)) at r ⌝ }
 {
-    if !nodes::is_array(text, table, i) {
-        return at;
-    }
-    let n = nodes::next(table, i);
+    let n = elements_end(text, table, i);
     let mut o = at;
     let mut k = i + 3;
     while k < n {
@@ -81,12 +88,10 @@ fn vertex(text: &[u8], table: &[u32], i: usize, sheet: &mut [u8], at: usize) -> 
 // The vertices, one after the other.
 pub fn vertices(text: &[u8], table: &[u32], i: usize, sheet: &mut [u8], at: usize) -> usize
     requires { ⌜ Holds (Elements (Triple Coordinate)) (now text) (now table) i ⌝ }
-    ensures { λ r. ⌜ Wrote (λ v. concatMap (λ w. layThree (signed 4) (threeOf integerOf w)) (elements v)) (now (text .entry)) (now (table .entry)) i (now (sheet .entry)) (now (sheet .exit)) at r ⌝ }
+    ensures { λ r. ⌜ Wrote (λ v. concatMap (λ w. layThree (signed 4) (threeOf integerOf w)) (elements v)) (now (text .entry)) (now (table .entry)) i
+        (now (sheet .entry)) (now (sheet .exit)) at r ⌝ }
 {
-    if !nodes::is_array(text, table, i) {
-        return at;
-    }
-    let n = nodes::next(table, i);
+    let n = elements_end(text, table, i);
     let mut o = at;
     let mut k = i + 3;
     while k < n {
@@ -131,15 +136,13 @@ pub fn boundary(
     at: usize,
 ) -> usize
     requires { ⌜ Holds (Leaves Index depth) (now text) (now table) i ⌝ }
-    ensures { λ r. ⌜ Wrote (λ v. layNest depth (nestOf indexOf depth v)) (now (text .entry)) (now (table .entry)) i (now (sheet .entry)) (now (sheet .exit)) at r ⌝ }
+    ensures { λ r. ⌜ Wrote (λ v. layNest depth (nestOf indexOf depth v)) (now (text .entry)) (now (table .entry)) i
+        (now (sheet .entry)) (now (sheet .exit)) at r ⌝ }
 {
     if depth == 0 {
         return index(text, table, i, sheet, at);
     }
-    if !nodes::is_array(text, table, i) {
-        return writer::put4(sheet, at, 0);
-    }
-    let n = nodes::next(table, i);
+    let n = elements_end(text, table, i);
     let first = writer::skip(at, 4);
     let mut count: u64 = 0;
     let mut o = first;
@@ -178,15 +181,13 @@ pub fn values(
     at: usize,
 ) -> usize
     requires { ⌜ Holds (Leaves Value depth) (now text) (now table) i ⌝ }
-    ensures { λ r. ⌜ Wrote (λ v. layValues depth (nestOf valueOf depth v)) (now (text .entry)) (now (table .entry)) i (now (sheet .entry)) (now (sheet .exit)) at r ⌝ }
+    ensures { λ r. ⌜ Wrote (λ v. layValues depth (nestOf valueOf depth v)) (now (text .entry)) (now (table .entry)) i
+        (now (sheet .entry)) (now (sheet .exit)) at r ⌝ }
 {
     if depth == 0 {
         return value(text, table, i, sheet, at);
     }
-    if !nodes::is_array(text, table, i) {
-        return at;
-    }
-    let n = nodes::next(table, i);
+    let n = elements_end(text, table, i);
     let mut o = at;
     let mut k = i + 3;
     while k < n {

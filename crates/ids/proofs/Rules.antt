@@ -37,6 +37,9 @@ module _ {x t : List ℕ} {i : ℕ} (d : TextNode x t i) where
   pub text-fits : {p : ℕ} → p ≡ getD t i 0 → p + 1 ≤ length x
   text-fits q = rw q (d .string .fits)
 
+  pub text-onward : {p : ℕ} → p ≡ getD t i 0 → length x * 1 < 2 ^ 63 → Fits w64 (p + 1)
+  text-onward q h = record { fits = omega (arith, text-fits q) }
+
   pub text-span : {p e : ℕ} → p ≡ getD t i 0 → e ≡ getD t (i + 1) 0 → Span x (p + 1) (e - 1)
   text-span q r = rw (q, r) (d .string .span)
 
@@ -56,9 +59,11 @@ pub name-text : {x t : List ℕ} {i : ℕ} {m : Member} → MemberAt x t i m →
 unfolding nameOf textAt
 name-text d = quoted-at (d .name) .text
 
-pub same-told : {x t : List ℕ} {i j p e p′ e′ : ℕ} {r : Bool} → TextNode x t i → TextNode x t j → p ≡ getD t i 0 → e ≡ getD t (i + 1) 0 → p′ ≡ getD t j 0 → e′ ≡ getD t (j + 1) 0 → r ≡ same (decodeAt x (p + 1) (e - 1)) (decodeAt x (p′ + 1) (e′ - 1)) → r ≡ same (textAt x t i) (textAt x t j)
-unfolding textAt
-same-told a b q r q′ r′ s = rw (← q, ← r, ← q′, ← r′) s
+module _ {x t : List ℕ} {i j p e p′ e′ : ℕ} {r : Bool} (a : TextNode x t i) (b : TextNode x t j) where
+  pub same-told : p ≡ getD t i 0 → e ≡ getD t (i + 1) 0 → p′ ≡ getD t j 0 → e′ ≡ getD t (j + 1) 0
+      → r ≡ same (decodeAt x (p + 1) (e - 1)) (decodeAt x (p′ + 1) (e′ - 1)) → r ≡ same (textAt x t i) (textAt x t j)
+  unfolding textAt
+  same-told q r q′ r′ s = rw (← q, ← r, ← q′, ← r′) s
 
 -- ---- the objects
 
@@ -66,22 +71,22 @@ same-told a b q r q′ r′ s = rw (← q, ← r, ← q′, ← r′) s
 pub nobody : Member
 nobody = (record { place = 0; end = 0; raw = [] }, tree.null 0 0)
 
-module _ {x t offsets : List ℕ} {count : ℕ} where
-  pub object-node : {k : ℕ} → Objects x t offsets count → k < count → MemberNode x t (getD offsets k 0)
+module _ {x t offsets : List ℕ} where
+  pub object-node : {k : ℕ} → Objects x t offsets → k < length offsets → MemberNode x t (getD offsets k 0)
   object-node {k} s l = record { it = getD (s .members) k nobody; stands = s .stand .each k nobody l }
 
-  pub object-text : {k : ℕ} → Objects x t offsets count → k < count → TextNode x t (getD offsets k 0)
+  pub object-text : {k : ℕ} → Objects x t offsets → k < length offsets → TextNode x t (getD offsets k 0)
   object-text s l = of-member (object-node s l .stands)
 
-  pub object-onward : {k : ℕ} → Objects x t offsets count → k < count → getD offsets k 0 + 3 + 2 < length t
+  pub object-onward : {k : ℕ} → Objects x t offsets → k < length offsets → getD offsets k 0 + 3 + 2 < length t
   object-onward s l = words (object-node s l .stands .value) .room
 
-  pub object-few : {k : ℕ} → Objects x t offsets count → k < count → k < 1024
+  pub object-few : {k : ℕ} → Objects x t offsets → k < length offsets → k < 1024
   object-few s l = omega (arith, s .stand .few)
 
 -- ---- one object
 
-pub object-value : {x t offsets : List ℕ} {count i : ℕ} → Objects x t offsets count → MemberNode x t i → Node x t (i + 3)
+pub object-value : {x t offsets : List ℕ} {i : ℕ} → Objects x t offsets → MemberNode x t i → Node x t (i + 3)
 object-value o d = record { value = d .it .1; stands = d .stands .value; short = o .short }
 
 pub member-text : {x t : List ℕ} {i : ℕ} → MemberNode x t i → TextNode x t i
@@ -90,4 +95,21 @@ member-text d = of-member (d .stands)
 pub member-onward : {x t : List ℕ} {i : ℕ} → MemberNode x t i → length t * 4 < 2 ^ 63 → Fits w64 (i + 3)
 member-onward d h = let w = words (d .stands .value) in record { fits = omega (arith, w .room) }
 
-pub ruleset ids = (needs, text-first, text-second, text-some, text-fits, text-span, of-string, of-member, same-told, object-node, object-text, object-few, object-value, member-text, member-onward)
+pub ruleset ids = (
+  needs,
+  text-first,
+  text-second,
+  text-some,
+  text-fits,
+  text-onward,
+  text-span,
+  of-string,
+  of-member,
+  same-told,
+  object-node,
+  object-text,
+  object-few,
+  object-value,
+  member-text,
+  member-onward,
+)

@@ -58,15 +58,15 @@ fn put(
 pub fn fill(
     text: &[u8],
     table: &[u32],
-    offsets: &[usize; 1024],
-    count: usize,
+    offsets: &[usize],
     heads: &mut [u16; 4096],
     nexts: &mut [u16; 1024],
 )
-    requires { ⌜ (Objects (now text) (now table) (now offsets) count) × (length (now heads) ≡ 4096) × (length (now nexts) ≡ 1024) × ((c : ℕ) → getD (now heads) c 0 ≡ 0) ⌝ }
-    ensures { λ r. ⌜ Fills (now (text .entry)) (now (table .entry)) (now (offsets .entry)) count (now (nexts .entry)) (now (heads .exit)) (now (nexts .exit)) ⌝ }
+    requires { ⌜ (Objects (now text) (now table) (now offsets))
+        × (length (now heads) ≡ 4096) × (length (now nexts) ≡ 1024) × ((c : ℕ) → getD (now heads) c 0 ≡ 0) ⌝ }
+    ensures { λ r. ⌜ Fills (now (text .entry)) (now (table .entry)) (now (offsets .entry)) (now (nexts .entry)) (now (heads .exit)) (now (nexts .exit)) ⌝ }
 {
-    let mut k = count;
+    let mut k = offsets.len();
     while k > 0 {
         k -= 1;
         let own = offsets[k];
@@ -74,18 +74,18 @@ pub fn fill(
     }
 }
 
-// The number, from 0, of the first object whose ID is the string or name at node i; `count` if there is none.
+// The number, from 0, of the first object whose ID is the string or name at node i; the count of the objects if there is none.
 pub fn number(
     text: &[u8],
     table: &[u32],
-    offsets: &[usize; 1024],
-    count: usize,
+    offsets: &[usize],
     heads: &[u16; 4096],
     nexts: &[u16; 1024],
     i: usize,
 ) -> usize
-    requires { ⌜ (Objects (now text) (now table) (now offsets) count) × (TextNode (now text) (now table) i) × (Chains (now text) (now table) (now offsets) count (now heads) (now nexts)) ⌝ }
-    ensures { λ r. ⌜ Numbers (now (text .entry)) (now (table .entry)) (now (offsets .entry)) count i r ⌝ }
+    requires { ⌜ (Objects (now text) (now table) (now offsets)) × (TextNode (now text) (now table) i)
+        × (Chains (now text) (now table) (now offsets) (now heads) (now nexts)) ⌝ }
+    ensures { λ r. ⌜ Numbers (now (text .entry)) (now (table .entry)) (now (offsets .entry)) i r ⌝ }
 {
     let c = chain_at(text, table, i);
     let mut e = wide(heads[c]);
@@ -97,5 +97,5 @@ pub fn number(
         }
         e = wide(nexts[k]);
     }
-    count
+    offsets.len()
 }

@@ -1,14 +1,15 @@
 -- What the proofs of the functions that judge use.
-use Prim.Native.Nat.{ℕ, _≤_, _<_}
+use Prim.Native.Nat.{ℕ, _-_, _≤_, _<_}
 use native.Mathlib.Omega.{arith}
-use mathlib.Core.Path.{_≡_, ap, _∙_, subst}
+use mathlib.Core.Path.{_≡_, refl, ap, _∙_, subst}
 use mathlib.Core.List.{List, map}
-use lib.ListN.{length}
+use lib.ListN.{length, take, drop}
 use borrow.Author.Needs.{needs}
 use borrow.Author.Tests.{lt-ltb, le-ltb}
 use Rattle.utf8.specs.Utf8.{wholeLength}
 use Rattle.utf8.specs.Laws.{clash}
 use Rattle.json.specs.Machine.{reads}
+use Rattle.json.specs.Tree.{Json}
 use Rattle.json.specs.Table.{Sub}
 use Rattle.json.specs.Parse.{Tells}
 use Rattle.json.specs.declared.Parsed.{Parsed}
@@ -20,6 +21,10 @@ use Rattle.fields.specs.Fields.{objectsOf}
 use Rattle.schema.specs.Schema.{cityJson}
 use Rattle.schema.specs.Says.{IndexedAt}
 use Rattle.schema.specs.declared.Walked.{Walked}
+use Rattle.nodes.specs.Unique.{unique}
+use Rattle.fields.specs.declared.Index.{Index}
+use Rattle.ids.specs.Says.{Offsets, Objects}
+use Rattle.rows.specs.Says.{Listed}
 use Rattle.links.specs.Says.{Ready, LinksGive}
 use Rattle.verdict.specs.Verdict.{faults, parsed, screening}
 use Rattle.verdict.specs.Exact.{in-text}
@@ -29,10 +34,11 @@ use Rattle.refusals.specs.declared.Broken.the-variants as broken
 use Rattle.judging.specs.declared.Screened.the-variants as screened
 use Rattle.judging.specs.declared.Opened.{Opened}
 use Rattle.judging.specs.declared.Opened.the-variants as opened
-use Rattle.judging.specs.Judging.{screenedAs, treeOrRefusal, openedAs, Room, Stands, TreeIn, Opens, Examined}
-use Rattle.judging.specs.Laws.{passed-short, passed-judged, screened-refused, opened-tree, opened-refused, table-refused, table-accepted}
+use Rattle.judging.specs.Judging.{screenedAs, treeOrRefusal, openedAs, Room, Stands, TreeIn, Opens, Linked, Rows, offsetsOf, LinkedBy, TreeExamined, Examined, RowsOf}
+use Rattle.judging.specs.Laws.{passed-short, passed-judged, screened-refused, opened-tree, opened-refused, table-refused, table-accepted, lent-offsets, index-offsets, room-long, rows-long}
 use Rattle.judging.specs.Least.{early-passes, all-passes, before-links, no-repeat, no-schema, from-five, few-objects}
 use Rattle.judging.proofs.Alone.{alone}
+use Rattle.judging.proofs.Rooms.{room-for}
 
 -- ---- rules 1 and 2
 
@@ -77,6 +83,29 @@ module _ (x t₀ t : List ℕ) {r : Parsed} (h : Tells x t₀ t r) where
   unfolding Tells
   open-short o k e = absurd (omega (arith, subst (Tells x t₀ t) e h .1, k .long))
 
+-- ---- rules 5 to 14
+
+pub tree-examined : {x t : List ℕ} {a b : ℕ} {w : Walked} → Gives (λ v. least noFault (map (fault 5) (rule5 v))) x t 0 a → Gives (λ v. least a (map (fault 6) (rule6 v))) x t 0 b
+    → Gives (λ v. least b (cityJson v)) x t 0 (w .least) → IndexedAt x t (w .index) → TreeExamined x t w
+tree-examined five six schema index = record { least = λ v s. early-passes v (five .is v s) (six .is v s) (schema .is v s); indexed = index }
+
+-- ---- the links
+
+pub linked-objects : {x t offsets : List ℕ} → Linked x t offsets → Objects x t offsets
+linked-objects d = record { members = objectsOf (d .value); stand = d .indexed (d .value) (d .stands); short = d .short }
+
+pub linked-ready : {x t offsets children parents : List ℕ} → Linked x t offsets → Listed x t offsets "children" children → Listed x t offsets "parents" parents → Ready x t offsets children parents
+linked-ready d b a = record { value = d .value; stands = d .stands; short = d .short; indexed = d .indexed; alone = d .alone; below = b; above = a }
+
+pub rows-are : {x t offsets children parents : List ℕ} → Listed x t offsets "children" children → Listed x t offsets "parents" parents → Rows x t offsets children parents
+rows-are b a = record { below = b; above = a }
+
+pub linked-lent : {x t : List ℕ} {index : Index} → LinkedBy x t index → Linked x t (take (index .count - 0) (drop 0 (index .offsets)))
+linked-lent {index = index} d = rw (lent-offsets index) (d .linked)
+
+pub rows-lent : {x t : List ℕ} (index : Index) {children parents : List ℕ} → Rows x t (take (index .count - 0) (drop 0 (index .offsets))) children parents → Rows x t (offsetsOf index) children parents
+rows-lent index r = rw (← lent-offsets index) r
+
 -- ---- rules 5 to 17
 
 -- the least fault and the index of the tree are those of the text
@@ -87,24 +116,64 @@ examined {x} {t} s i e = record {
   indexed = λ v q. i .is v (subst (Sub x t 0) (cc) (s .stands));
 }
 
-module _ {x t : List ℕ} {n a b : ℕ} {w : Walked} (s : Stands x t n) (five : Gives (λ v. least noFault (map (fault 5) (rule5 v))) x t 0 a) (six : Gives (λ v. least a (map (fault 6) (rule6 v))) x t 0 b)
-    (schema : Gives (λ v. least b (cityJson v)) x t 0 (w .least)) (index : IndexedAt x t (w .index)) where
+module _ {x t : List ℕ} {n : ℕ} {w : Walked} (s : Stands x t n) (d : TreeExamined x t w) where
   placed : Placed (s .value)
   placed = in-text x (s .value) (s .short) (s .reads)
 
   walked : w .least ≡ least noFault (early (s .value))
-  walked = early-passes (s .value) (five .is (s .value) (s .stands)) (six .is (s .value) (s .stands)) (schema .is (s .value) (s .stands))
+  walked = d .least (s .value) (s .stands)
 
   pub examine-early : w .least < noFault → Examined x t w
-  examine-early h = examined s index (before-links (s .value) placed walked h)
+  examine-early h = examined s (d .indexed) (before-links (s .value) placed walked h)
+
+  pub early-rows : {children parents : List ℕ} → w .least < noFault → RowsOf x t w children parents
+  early-rows h = record { are = λ k. absurd (omega arith) }
 
   few : noFault ≤ w .least → length (objectsOf (s .value)) ≤ 1024
   few h = few-objects (s .value) (no-schema (s .value) placed walked h)
 
-  pub examine-ready : noFault ≤ w .least → Ready x t (w .index)
-  examine-ready h = record { value = s .value; stands = s .stands; short = s .short; few = few h; indexed = index .is; alone = alone (s .value) (no-repeat (s .value) placed walked h) }
+  offsets-are : noFault ≤ w .least → (v : Json) → Sub x t 0 v → Offsets x t (objectsOf v) (offsetsOf (w .index))
+  offsets-are h v u = index-offsets (d .indexed .is v u) (subst (λ j. length (objectsOf j) ≤ 1024) (unique (s .stands) u) (few h))
 
-  pub examine-late : {d : ℕ} → noFault ≤ w .least → LinksGive x t (w .least) d → Examined x t (record { index = w .index; least = d })
-  examine-late h g = examined s index (all-passes (s .value) walked (g .is (s .value) (s .stands) (few h)))
+  pub examine-linked : noFault ≤ w .least → LinkedBy x t (w .index)
+  examine-linked h = let i = d .indexed .is (s .value) (s .stands) in record {
+    room = i .room;
+    few = omega (arith, i .count);
+    linked = record {
+      value = s .value;
+      stands = s .stands;
+      short = s .short;
+      indexed = offsets-are h;
+      alone = alone (s .value) (no-repeat (s .value) placed walked h);
+    };
+  }
 
-pub ruleset judges = (needs, screen-long, screen-odd, screen-passed, passed-short, passed-judged, screened-refused, open-tree, open-bad, open-deep, open-long, open-short, opened-tree, opened-refused, examine-early, examine-ready, examine-late, table-refused, table-accepted)
+  module _ {e : ℕ} where
+    pub examine-late : noFault ≤ w .least → LinksGive x t (w .least) e → Examined x t (record { index = w .index; least = e })
+    examine-late h g = examined s (d .indexed) (all-passes (s .value) walked (g .is (s .value) (s .stands)))
+
+pub late-rows : {x t : List ℕ} {index : Index} {e : ℕ} {children parents : List ℕ} → Rows x t (offsetsOf index) children parents → RowsOf x t (record { index = index; least = e }) children parents
+late-rows r = record { are = λ k. r }
+
+pub ruleset judges = (
+  needs,
+  screen-long,
+  screen-odd,
+  screen-passed,
+  passed-short,
+  passed-judged,
+  screened-refused,
+  open-tree,
+  open-bad,
+  open-deep,
+  open-long,
+  open-short,
+  opened-tree,
+  opened-refused,
+  table-refused,
+  table-accepted,
+)
+
+pub ruleset rooms = (needs, room-long, rows-long)
+
+pub ruleset examines = (needs, tree-examined, room-for, linked-objects, linked-ready, rows-are, linked-lent, rows-lent, examine-early, early-rows, examine-linked, examine-late, late-rows)

@@ -1,17 +1,23 @@
 -- What judge and its parts answer.
 use mathlib.Core.Path.{_≡_}
-use mathlib.Core.List.{List}
+use mathlib.Core.List.{List, []}
 use mathlib.Core.Logic.{_⊎_, inl, inr}
 use mathlib.Core.Option.{Option, none, some}
-use Prim.Native.Nat.{ℕ, _+_, _*_, _≤_}
-use lib.ListN.{length, getD}
+use Prim.Native.Nat.{ℕ, _+_, _*_, _<_, _≤_}
+use lib.ListN.{length, getD, take}
 use Rattle.json.specs.Tree.{Json}
 use Rattle.json.specs.Machine.{Outcome, read, reads, bad, tooDeep}
 use Rattle.json.specs.Table.{Sub, size}
 use Rattle.nodes.specs.Faults as faults
 use Rattle.fields.specs.Fields.{objectsOf}
 use Rattle.fields.specs.Says.{Indexed}
+use Rattle.fields.specs.declared.Index.{Index}
+use Rattle.model.specs.Model.{objectNumber}
+use Rattle.ids.specs.Says.{Offsets, namesOf}
+use Rattle.rows.specs.Says.{Listed}
+use Rattle.schema.specs.Says.{IndexedAt}
 use Rattle.schema.specs.declared.Walked.{Walked}
+use Rattle.verdict.specs.Places.{early}
 use Rattle.verdict.specs.Verdict as verdict
 use Rattle.refusals.specs.Refusals.{ruleNumber, refusal}
 use Rattle.judging.specs.declared.Screened.{Screened}
@@ -67,8 +73,46 @@ pub record Opens (x t₀ t : List ℕ) (r : Opened) : Type 0 where
   pub is : openedAs r ≡ treeOrRefusal (read x)
   pub holds : (n : ℕ) → r ≡ opened.Tree n → TreeIn x t₀ t n
 
+-- the rows have room for what the city objects list in a text whose tree stands in the table t: a row for each and an entry for each listed value
+-- take a third of their words
+pub record RowRoom (t rows : List ℕ) : Type 0 where
+  pub long : length t ≤ 3 * length rows
+  pub short : length rows ≤ 65535
+
+-- a value of a text that is short enough stands at the node 0; the offsets are those of its city objects, no two of which have the same ID (rule 6)
+pub record Linked (x t offsets : List ℕ) : Type 0 where
+  pub value : Json
+  pub stands : Sub x t 0 value
+  pub short : length x ≤ 65535
+  pub indexed : (v : Json) → Sub x t 0 v → Offsets x t (objectsOf v) offsets
+  pub alone : (k : ℕ) → k < length (objectsOf value) → objectNumber (namesOf (objectsOf value)) (getD (namesOf (objectsOf value)) k []) ≡ k
+
+-- the rows have what the objects list
+pub record Rows (x t offsets children parents : List ℕ) : Type 0 where
+  pub below : Listed x t offsets "children" children
+  pub above : Listed x t offsets "parents" parents
+
+-- the offsets of an index
+unfoldable pub offsetsOf : Index → List ℕ
+offsetsOf index = take (index .count) (index .offsets)
+
+-- the same by an index
+pub record LinkedBy (x t : List ℕ) (index : Index) : Type 0 where
+  pub room : length (index .offsets) ≡ 1024
+  pub few : index .count ≤ 1024
+  pub linked : Linked x t (offsetsOf index)
+
+-- the least fault of the rules 5 to 14 of the tree that stands at the node 0, and the index over the table t of its city objects
+pub record TreeExamined (x t : List ℕ) (w : Walked) : Type 0 where
+  pub least : (v : Json) → Sub x t 0 v → w .least ≡ faults.least faults.noFault (early v)
+  pub indexed : IndexedAt x t (w .index)
+
 -- the least fault of the rules 5 to 17 of the tree that the text x is read as, and the index over the table t of its city objects
 pub record Examined (x t : List ℕ) (w : Walked) : Type 0 where
   pub least : (v : Json) → read x ≡ reads v → w .least ≡ faults.least faults.noFault (verdict.faults v)
   pub from : 5 * 65536 ≤ w .least
   pub indexed : (v : Json) → read x ≡ reads v → Indexed x t (objectsOf v) (w .index)
+
+-- if there is no fault, the rows have what the city objects list
+pub record RowsOf (x t : List ℕ) (w : Walked) (children parents : List ℕ) : Type 0 where
+  pub are : faults.noFault ≤ w .least → Rows x t (offsetsOf (w .index)) children parents

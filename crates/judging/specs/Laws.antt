@@ -1,5 +1,5 @@
 -- What follows from what the parts of judge answered.
-use Prim.Native.Nat.{ℕ, _≤_, _<_}
+use Prim.Native.Nat.{ℕ, _-_, _≤_, _<_}
 use native.Mathlib.Omega.{arith}
 use mathlib.Core.Path.{_≡_, refl, sym, ap, _∙_, subst}
 use mathlib.Core.Bool.{Bool, true, false, cond}
@@ -7,13 +7,19 @@ use mathlib.Core.List.{List, []}
 use mathlib.Core.Logic.{inr}
 use mathlib.Core.Option.{Option, some}
 use mathlib.Core.Option as option
-use lib.ListN.{length}
+use lib.ListN.{length, take, drop, replicate}
+use lib.Seq.{length-take-le, getD-take}
 use lib.Dec.{ltb}
 use borrow.Author.Tests.{ltb-true, ltb-false}
 use Rattle.utf8.specs.Utf8.{wholeLength}
 use Rattle.utf8.specs.Laws.{clash}
 use Rattle.json.specs.Machine.{Outcome, read, reads, bad, tooDeep}
+use Rattle.nodes.specs.Access.{Member}
+use Rattle.fields.specs.Says.{Indexed}
+use Rattle.fields.specs.declared.Index.{Index}
+use Rattle.ids.specs.Says.{Offsets}
 use Rattle.nodes.specs.Faults.{ruleOf, placeIn, noFault}
+use Rattle.nodes.specs.Laws.{fresh-length}
 use Rattle.schema.specs.declared.Walked.{Walked}
 use Rattle.verdict.specs.Verdict.{accepted, refused, faults, parsed, screening, verdict}
 use Rattle.verdict.specs.Verdict as judged
@@ -26,7 +32,7 @@ use Rattle.judging.specs.declared.Opened.{Opened}
 use Rattle.judging.specs.declared.Opened.the-variants as opened
 use Rattle.judging.specs.declared.Verdict.{Verdict}
 use Rattle.judging.specs.declared.Verdict.the-variants.{Accepted, Refused}
-use Rattle.judging.specs.Judging.{verdictOf, screenedAs, treeOrRefusal, openedAs, Stands, Opens, Examined}
+use Rattle.judging.specs.Judging.{verdictOf, screenedAs, treeOrRefusal, openedAs, Room, RowRoom, Stands, Opens, offsetsOf, Examined}
 use Rattle.judging.specs.Least.{no-fault, judged-fault, judged-none, few-clean}
 
 -- ---- rules 1 and 2
@@ -87,7 +93,8 @@ module _ {x t : List ℕ} {n : ℕ} {w : Walked} (s : Stands x t n) (h : Examine
   pub clean : noFault ≤ w .least → faults (s .value) ≡ []
   clean k = no-fault (s .value) (in-text x (s .value) (s .short) (s .reads)) (h .least (s .value) (s .reads)) k
 
-  pub table-refused : (f : Refusal) → w .least < noFault → refusal f ≡ refused (ruleOf (w .least)) (placeIn (w .least)) → verdictOf (Refused f) ≡ parsed (read x)
+  pub table-refused : (f : Refusal) → w .least < noFault → refusal f ≡ refused (ruleOf (w .least)) (placeIn (w .least))
+      → verdictOf (Refused f) ≡ parsed (read x)
   unfolding verdictOf parsed
   table-refused f k e = e ∙ sym (ap parsed (s .reads) ∙ judged-fault (s .value) (h .least (s .value) (s .reads)) k)
 
@@ -97,3 +104,29 @@ module _ {x t : List ℕ} {n : ℕ} {w : Walked} (s : Stands x t n) (h : Examine
       let few = few-clean (s .value) (clean k) in
       let counted = h .indexed (s .value) (s .reads) .count in
       ap accepted (omega arith) ∙ sym (ap parsed (s .reads) ∙ judged-none (s .value) (h .least (s .value) (s .reads)) k)
+
+-- ---- the offsets of an index
+
+-- those of all members, if there are no more than it holds
+pub index-offsets : {x t : List ℕ} {ms : List Member} {index : Index} → Indexed x t ms index → length ms ≤ 1024 → Offsets x t ms (offsetsOf index)
+unfolding offsetsOf
+index-offsets {index = index} i h =
+    let c : length (take (index .count) (index .offsets)) ≡ index .count = length-take-le (index .count) (index .offsets) (omega (arith, i .room, i .count)) in
+    record {
+      all = omega (arith, c, i .count);
+      few = omega (arith, c, i .count);
+      each = λ k m l. rw (getD-take (index .count) (index .offsets) k 0 (omega (arith, c))) (i .each k m (omega (arith, c)));
+    }
+
+-- as they are lent
+pub lent-offsets : (index : Index) → take (index .count - 0) (drop 0 (index .offsets)) ≡ offsetsOf index
+unfolding offsetsOf
+lent-offsets index = let z : index .count - 0 ≡ index .count = omega arith in ap (λ (n : ℕ). take n (index .offsets)) z
+
+-- ---- work tables that were just made
+
+pub room-long : {x t : List ℕ} → length x ≤ 65535 → t ≡ replicate 98352 0 → Room x t
+room-long h q = record { short = h; long = omega (arith, fresh-length 98352 q) }
+
+pub rows-long : {t rows : List ℕ} → t ≡ replicate 98352 0 → rows ≡ replicate 32784 0 → RowRoom t rows
+rows-long p q = record { long = omega (arith, fresh-length 98352 p, fresh-length 32784 q); short = omega (arith, fresh-length 32784 q) }

@@ -46,11 +46,14 @@ nothing lo hi b (f ∷ fs) a h = absurd (omega (arith, a .0 .1, least-le (min b 
 -- ---- a tree
 
 -- the passes of the rules 5 to 14, one after the other
-pub early-passes : (v : Json) {a b c : ℕ} → a ≡ least noFault (map (fault 5) (rule5 v)) → b ≡ least a (map (fault 6) (rule6 v)) → c ≡ least b (cityJson v) → c ≡ least noFault (early v)
+pub early-passes : (v : Json) {a b c : ℕ} → a ≡ least noFault (map (fault 5) (rule5 v)) → b ≡ least a (map (fault 6) (rule6 v)) → c ≡ least b (cityJson v)
+    → c ≡ least noFault (early v)
 early-passes v p q r =
     let five = map (fault 5) (rule5 v) in
     let six = map (fault 6) (rule6 v) in
-    r ∙ ap (λ (n : ℕ). least n (cityJson v)) (q ∙ ap (λ (n : ℕ). least n six) p ∙ sym (least-++ noFault five six)) ∙ sym (least-++ noFault (five ++ six) (cityJson v))
+    r
+    ∙ ap (λ (n : ℕ). least n (cityJson v)) (q ∙ ap (λ (n : ℕ). least n six) p ∙ sym (least-++ noFault five six))
+    ∙ sym (least-++ noFault (five ++ six) (cityJson v))
 
 -- then that of the links
 pub all-passes : (v : Json) {c d : ℕ} → c ≡ least noFault (early v) → d ≡ least c (linkFaults v) → d ≡ least noFault (faults v)
@@ -62,14 +65,17 @@ module _ (v : Json) (d : Placed v) where
   pub before-links : {c : ℕ} → c ≡ least noFault (early v) → c < noFault → c ≡ least noFault (faults v)
   before-links {c} p h = all-passes v p (of (least-among 5 15 noFault (early v) (early-among v d)) (least-among 15 18 c (linkFaults v) (links-safe v d)))
     where
-      of : (least noFault (early v) ≡ noFault) ⊎ Among 5 15 (least noFault (early v)) → (least c (linkFaults v) ≡ c) ⊎ Among 15 18 (least c (linkFaults v)) → c ≡ least c (linkFaults v)
+      of : (least noFault (early v) ≡ noFault) ⊎ Among 5 15 (least noFault (early v)) → (least c (linkFaults v) ≡ c) ⊎ Among 15 18 (least c (linkFaults v))
+          → c ≡ least c (linkFaults v)
       of (inl e) k = absurd (omega arith)
       of (inr k) (inl e) = sym e
       of (inr k) (inr l) = absurd (omega (arith, k .1, l .0, least-le c (linkFaults v)))
 
   -- no fault of the rules 5 to 14: none of rule 6
   pub no-repeat : {c : ℕ} → c ≡ least noFault (early v) → noFault ≤ c → rule6 v ≡ []
-  no-repeat p h = map-eq-nil-iff (fault 6) .0 (nil-right (map (fault 5) (rule5 v)) _ (nil-left _ (cityJson v) (nothing 5 15 noFault (early v) (early-among v d) (omega arith))))
+  no-repeat p h =
+      let none : early v ≡ [] = nothing 5 15 noFault (early v) (early-among v d) (omega arith) in
+      map-eq-nil-iff (fault 6) .0 (nil-right (map (fault 5) (rule5 v)) _ (nil-left _ (cityJson v) none))
 
   -- and none of the schema
   pub no-schema : {c : ℕ} → c ≡ least noFault (early v) → noFault ≤ c → cityJson v ≡ []
@@ -119,7 +125,8 @@ unfolding cityJson all at objectsOf
 few-objects v e =
     let n = countIn (find "vertices" v) in
     few-members n (find "CityObjects" v)
-    (nil-left _ _ (nil-right (on transform (find "transform" v)) _ (nil-right (on (word "2.0") (find "version" v)) _ (nil-right (on (word "CityJSON") (find "type" v)) _
+    (nil-left _ _ (nil-right (on transform (find "transform" v)) _ (nil-right (on (word "2.0") (find "version" v)) _
+    (nil-right (on (word "CityJSON") (find "type" v)) _
     (nil-right (needs ("type" ∷ "version" ∷ "transform" ∷ "CityObjects" ∷ "vertices" ∷ []) v) _ (nil-right (objectKind v) _ e))))))
 
 -- so where there is no fault

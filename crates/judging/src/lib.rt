@@ -4,7 +4,9 @@ ghost use mathlib.Core.Path.{_≡_};
 ghost use lib.ListN.{length};
 ghost use Rattle.verdict.specs.Verdict.{parsed, screening, verdict};
 ghost use Rattle.json.specs.Machine.{read};
-ghost use Rattle.judging.specs.Judging.{verdictOf, screenedAs, Room, Stands, Opens, Examined};
+ghost use Rattle.links.specs.Says.{LinksGive};
+ghost use Rattle.judging.specs.Judging.{verdictOf, screenedAs, Room, Stands, Opens, RowRoom, Linked, Rows, LinkedBy, offsetsOf, TreeExamined, Examined, RowsOf};
+use fields::Index;
 use json::Parsed;
 use nodes::NO_FAULT;
 use refusals::Broken;
@@ -76,21 +78,72 @@ pub fn open(text: &[u8], table: &mut [u32]) -> Opened
     }
 }
 
-// The least fault of the rules 5 to 17 of a text, whose tree's words are the first n of the table, and the index of its city objects.
-// Every fault is below NO_FAULT.
-pub fn examine(text: &[u8], table: &[u32], n: usize) -> Walked
+// Rules 15 to 17 of a text of which the offsets of the city objects are given; the rows of what these list are filled for it.
+fn examine_links(
+    text: &[u8],
+    table: &[u32],
+    offsets: &[usize],
+    children: &mut [u16],
+    parents: &mut [u16],
+    best: u32,
+) -> u32
+    requires { ⌜ (Linked (now text) (now table) (now offsets)) × (RowRoom (now table) (now children)) × (RowRoom (now table) (now parents)) ⌝ }
+    ensures { λ r. ⌜ LinksGive (now (text .entry)) (now (table .entry)) best r ⌝ }
+    ensures { λ _. ⌜ Rows (now (text .entry)) (now (table .entry)) (now (offsets .entry)) (now (children .exit)) (now (parents .exit)) ⌝ }
+{
+    rows::fill(text, table, offsets, children, parents);
+    links::links(text, table, offsets, children, parents, best)
+}
+
+// Rules 15 to 17 of a text in which the rules 5 to 14 find no fault, with the index of its city objects.
+fn examine_index(
+    text: &[u8],
+    table: &[u32],
+    index: Index,
+    children: &mut [u16],
+    parents: &mut [u16],
+    best: u32,
+) -> u32
+    requires { ⌜ (LinkedBy (now text) (now table) index) × (RowRoom (now table) (now children)) × (RowRoom (now table) (now parents)) ⌝ }
+    ensures { λ r. ⌜ LinksGive (now (text .entry)) (now (table .entry)) best r ⌝ }
+    ensures { λ _. ⌜ Rows (now (text .entry)) (now (table .entry)) (offsetsOf index) (now (children .exit)) (now (parents .exit)) ⌝ }
+{
+    let offsets = index.offsets;
+    let count = index.count;
+    let all: &[usize] = &offsets;
+    examine_links(text, table, &all[0..count], children, parents, best)
+}
+
+// The least fault of the rules 5 to 14 of a text, whose tree's words are the first n of the table, and the index of its city objects.
+fn examine_tree(text: &[u8], table: &[u32], n: usize) -> Walked
     requires { ⌜ Stands (now text) (now table) n ⌝ }
-    ensures { λ r. ⌜ Examined (now (text .entry)) (now (table .entry)) r ⌝ }
+    ensures { λ r. ⌜ TreeExamined (now (text .entry)) (now (table .entry)) r ⌝ }
 {
     let a = everywhere::unpaired(text, table, n, NO_FAULT);
     let b = everywhere::repeated(text, table, n, a);
-    let walked = schema::root(text, table, b);
+    schema::root(text, table, b)
+}
+
+// The least fault of the rules 5 to 17 of such a text, and the index of its city objects. Every fault is below NO_FAULT.
+// If there is none, the rows have what the city objects list.
+pub fn examine(
+    text: &[u8],
+    table: &[u32],
+    n: usize,
+    children: &mut [u16],
+    parents: &mut [u16],
+) -> Walked
+    requires { ⌜ (Stands (now text) (now table) n) × (RowRoom (now table) (now children)) × (RowRoom (now table) (now parents)) ⌝ }
+    ensures { λ r. ⌜ Examined (now (text .entry)) (now (table .entry)) r ⌝ }
+    ensures { λ r. ⌜ RowsOf (now (text .entry)) (now (table .entry)) r (now (children .exit)) (now (parents .exit)) ⌝ }
+{
+    let walked = examine_tree(text, table, n);
     let c = walked.least;
     if c < NO_FAULT {
         return walked;
     }
     let index = walked.index;
-    let d = links::links(text, table, index, c);
+    let d = examine_index(text, table, index, children, parents, c);
     Walked {
         least: d,
         index: index,
@@ -98,11 +151,17 @@ pub fn examine(text: &[u8], table: &[u32], n: usize) -> Walked
 }
 
 // Rules 5 to 17 over the node table of a text, whose first n words are its tree's.
-fn judge_table(text: &[u8], table: &[u32], n: usize) -> Verdict
-    requires { ⌜ Stands (now text) (now table) n ⌝ }
+fn judge_table(
+    text: &[u8],
+    table: &[u32],
+    n: usize,
+    children: &mut [u16],
+    parents: &mut [u16],
+) -> Verdict
+    requires { ⌜ (Stands (now text) (now table) n) × (RowRoom (now table) (now children)) × (RowRoom (now table) (now parents)) ⌝ }
     ensures { λ r. ⌜ verdictOf r ≡ parsed (read (now (text .entry))) ⌝ }
 {
-    let walked = examine(text, table, n);
+    let walked = examine(text, table, n, children, parents);
     let least = walked.least;
     if least < NO_FAULT {
         return Verdict::Refused(refusals::refuse_fault(least));
@@ -111,26 +170,30 @@ fn judge_table(text: &[u8], table: &[u32], n: usize) -> Verdict
     Verdict::Accepted(index.count)
 }
 
-// Rules 3 to 17 of a text, with a work table that has room for its tree.
-fn judge_in(text: &[u8], table: &mut [u32]) -> Verdict
-    requires { ⌜ Room (now text) (now table) ⌝ }
+// Rules 3 to 17 of a text, with a work table that has room for its tree, and rows that have room for its links.
+fn judge_in(text: &[u8], table: &mut [u32], children: &mut [u16], parents: &mut [u16]) -> Verdict
+    requires { ⌜ (Room (now text) (now table)) × (RowRoom (now table) (now children)) × (RowRoom (now table) (now parents)) ⌝ }
     ensures { λ r. ⌜ verdictOf r ≡ parsed (read (now (text .entry))) ⌝ }
 {
     let opened = open(text, table);
     match opened {
-        Opened::Tree(n) => judge_table(text, table, n),
+        Opened::Tree(n) => judge_table(text, table, n, children, parents),
         Opened::Refused(refusal) => Verdict::Refused(refusal),
     }
 }
 
-// Rules 3 to 17 of a text of at most 4,096 bytes. A small work table is cleared sooner.
+// Rules 3 to 17 of a text of at most 4,096 bytes. Small work tables are cleared sooner.
 fn judge_short(text: &[u8]) -> Verdict
     requires { ⌜ length (now text) ≤ 4096 ⌝ }
     ensures { λ r. ⌜ verdictOf r ≡ parsed (read (now (text .entry))) ⌝ }
 {
     let mut space: [u32; 6194] = [0; 6194];
+    let mut below: [u16; 2065] = [0; 2065];
+    let mut above: [u16; 2065] = [0; 2065];
     let table: &mut [u32] = &mut space;
-    judge_in(text, table)
+    let children: &mut [u16] = &mut below;
+    let parents: &mut [u16] = &mut above;
+    judge_in(text, table, children, parents)
 }
 
 // Rules 3 to 17 of a text that is not too long.
@@ -139,11 +202,15 @@ fn judge_long(text: &[u8]) -> Verdict
     ensures { λ r. ⌜ verdictOf r ≡ parsed (read (now (text .entry))) ⌝ }
 {
     let mut space: [u32; 98352] = [0; 98352];
+    let mut below: [u16; 32784] = [0; 32784];
+    let mut above: [u16; 32784] = [0; 32784];
     let table: &mut [u32] = &mut space;
-    judge_in(text, table)
+    let children: &mut [u16] = &mut below;
+    let parents: &mut [u16] = &mut above;
+    judge_in(text, table, children, parents)
 }
 
-// Rules 3 to 17 of a text that is not too long, with a work table of a size that suits it.
+// Rules 3 to 17 of a text that is not too long, with work tables of a size that suits it.
 fn judge_json(text: &[u8]) -> Verdict
     requires { ⌜ length (now text) ≤ 65535 ⌝ }
     ensures { λ r. ⌜ verdictOf r ≡ parsed (read (now (text .entry))) ⌝ }

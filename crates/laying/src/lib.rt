@@ -5,8 +5,9 @@ ghost use lib.ListN.{length};
 ghost use Rattle.verdict.specs.Verdict.{parsed};
 ghost use Rattle.json.specs.Machine.{read};
 ghost use Rattle.sheets.specs.Laid.{answer, roomAfter};
-ghost use Rattle.judging.specs.Judging.{Stands, Room};
-ghost use Rattle.laying.specs.Laying.{answered, Zeroes, Lays};
+ghost use Rattle.judging.specs.Judging.{Stands, Room, RowRoom};
+ghost use Rattle.laying.specs.Laying.{answered, Zeroes, Clean, CleanBy, Lays};
+use fields::Index;
 use judging::Opened;
 use judging::Screened;
 use nodes::NO_FAULT;
@@ -19,18 +20,19 @@ pub enum Answer {
     Refused(Refusal),
 }
 
-// Lays out a text whose tree's words are the first n of the table, in a sheet of zeroes.
-fn lay_table(text: &[u8], table: &[u32], n: usize, sheet: &mut [u8]) -> Answer
-    requires { ⌜ (Stands (now text) (now table) n) × (Zeroes (now sheet)) ⌝ }
+// Lays out a text in which the rules find no fault, in a sheet of zeroes.
+fn lay_sheet(
+    text: &[u8],
+    table: &[u32],
+    offsets: &[usize],
+    children: &[u16],
+    parents: &[u16],
+    sheet: &mut [u8],
+) -> Answer
+    requires { ⌜ (Clean (now text) (now table) (now offsets) (now children) (now parents)) × (Zeroes (now sheet)) ⌝ }
     ensures { λ r. ⌜ Lays (now (text .entry)) (parsed (read (now (text .entry)))) (now (sheet .entry)) (now (sheet .exit)) (answered r) ⌝ }
 {
-    let walked = judging::examine(text, table, n);
-    let fault = walked.least;
-    if fault < NO_FAULT {
-        return Answer::Refused(refusals::refuse_fault(fault));
-    }
-    let index = walked.index;
-    let size = records::sheet(text, table, index, sheet);
+    let size = records::sheet(text, table, offsets, children, parents, sheet);
     if size > sheet.len() {
         writer::clear(sheet);
         return Answer::Refused(Refusal {
@@ -38,17 +40,62 @@ fn lay_table(text: &[u8], table: &[u32], n: usize, sheet: &mut [u8]) -> Answer
             place: 0,
         });
     }
-    Answer::Laid(size, index.count)
+    Answer::Laid(size, offsets.len())
 }
 
-// Lays out a text in a sheet of zeroes, with a work table that has room for its tree.
-fn lay_in(text: &[u8], table: &mut [u32], sheet: &mut [u8]) -> Answer
-    requires { ⌜ (Room (now text) (now table)) × (Zeroes (now sheet)) ⌝ }
+// The same with the index of its city objects.
+fn lay_index(
+    text: &[u8],
+    table: &[u32],
+    index: Index,
+    children: &[u16],
+    parents: &[u16],
+    sheet: &mut [u8],
+) -> Answer
+    requires { ⌜ (CleanBy (now text) (now table) index (now children) (now parents)) × (Zeroes (now sheet)) ⌝ }
+    ensures { λ r. ⌜ Lays (now (text .entry)) (parsed (read (now (text .entry)))) (now (sheet .entry)) (now (sheet .exit)) (answered r) ⌝ }
+{
+    let offsets = index.offsets;
+    let count = index.count;
+    let all: &[usize] = &offsets;
+    lay_sheet(text, table, &all[0..count], children, parents, sheet)
+}
+
+// Lays out a text whose tree's words are the first n of the table, in a sheet of zeroes.
+fn lay_table(
+    text: &[u8],
+    table: &[u32],
+    n: usize,
+    children: &mut [u16],
+    parents: &mut [u16],
+    sheet: &mut [u8],
+) -> Answer
+    requires { ⌜ (Stands (now text) (now table) n) × (RowRoom (now table) (now children)) × (RowRoom (now table) (now parents)) × (Zeroes (now sheet)) ⌝ }
+    ensures { λ r. ⌜ Lays (now (text .entry)) (parsed (read (now (text .entry)))) (now (sheet .entry)) (now (sheet .exit)) (answered r) ⌝ }
+{
+    let walked = judging::examine(text, table, n, children, parents);
+    let fault = walked.least;
+    if fault < NO_FAULT {
+        return Answer::Refused(refusals::refuse_fault(fault));
+    }
+    let index = walked.index;
+    lay_index(text, table, index, children, parents, sheet)
+}
+
+// Lays out a text in a sheet of zeroes, with a work table that has room for its tree, and rows that have room for its links.
+fn lay_in(
+    text: &[u8],
+    table: &mut [u32],
+    children: &mut [u16],
+    parents: &mut [u16],
+    sheet: &mut [u8],
+) -> Answer
+    requires { ⌜ (Room (now text) (now table)) × (RowRoom (now table) (now children)) × (RowRoom (now table) (now parents)) × (Zeroes (now sheet)) ⌝ }
     ensures { λ r. ⌜ Lays (now (text .entry)) (parsed (read (now (text .entry)))) (now (sheet .entry)) (now (sheet .exit)) (answered r) ⌝ }
 {
     let opened = judging::open(text, table);
     match opened {
-        Opened::Tree(n) => lay_table(text, table, n, sheet),
+        Opened::Tree(n) => lay_table(text, table, n, children, parents, sheet),
         Opened::Refused(refusal) => Answer::Refused(refusal),
     }
 }
@@ -59,8 +106,12 @@ fn lay_short(text: &[u8], sheet: &mut [u8]) -> Answer
     ensures { λ r. ⌜ Lays (now (text .entry)) (parsed (read (now (text .entry)))) (now (sheet .entry)) (now (sheet .exit)) (answered r) ⌝ }
 {
     let mut space: [u32; 6194] = [0; 6194];
+    let mut below: [u16; 2065] = [0; 2065];
+    let mut above: [u16; 2065] = [0; 2065];
     let table: &mut [u32] = &mut space;
-    lay_in(text, table, sheet)
+    let children: &mut [u16] = &mut below;
+    let parents: &mut [u16] = &mut above;
+    lay_in(text, table, children, parents, sheet)
 }
 
 // Lays out a text that is not too long, in a sheet of zeroes.
@@ -69,11 +120,15 @@ fn lay_long(text: &[u8], sheet: &mut [u8]) -> Answer
     ensures { λ r. ⌜ Lays (now (text .entry)) (parsed (read (now (text .entry)))) (now (sheet .entry)) (now (sheet .exit)) (answered r) ⌝ }
 {
     let mut space: [u32; 98352] = [0; 98352];
+    let mut below: [u16; 32784] = [0; 32784];
+    let mut above: [u16; 32784] = [0; 32784];
     let table: &mut [u32] = &mut space;
-    lay_in(text, table, sheet)
+    let children: &mut [u16] = &mut below;
+    let parents: &mut [u16] = &mut above;
+    lay_in(text, table, children, parents, sheet)
 }
 
-// Lays out a text that is not too long, in a sheet of zeroes, with a work table of a size that suits it.
+// Lays out a text that is not too long, in a sheet of zeroes, with work tables of a size that suits it.
 fn lay_json(text: &[u8], sheet: &mut [u8]) -> Answer
     requires { ⌜ (length (now text) ≤ 65535) × (Zeroes (now sheet)) ⌝ }
     ensures { λ r. ⌜ Lays (now (text .entry)) (parsed (read (now (text .entry)))) (now (sheet .entry)) (now (sheet .exit)) (answered r) ⌝ }
@@ -84,7 +139,8 @@ fn lay_json(text: &[u8], sheet: &mut [u8]) -> Answer
     lay_long(text, sheet)
 }
 
-// Lays out a text in the lent sheet: the sheet's length and the number of city objects, and the sheet with zeroes after it; or a refusal as judge gives it, 18 if the sheet is longer than the room, and zeroes throughout.
+// Lays out a text in the lent sheet: the sheet's length and the number of city objects, and the sheet with zeroes after it;
+// or a refusal as judge gives it, 18 if the sheet is longer than the room, and zeroes throughout.
 pub fn lay(text: &[u8], sheet: &mut [u8]) -> Answer
     ensures { λ r. ⌜ answered r ≡ answer (now (text .entry)) (length (now (sheet .entry))) ⌝ }
     ensures { λ r. ⌜ now (sheet .exit) ≡ roomAfter (now (text .entry)) (length (now (sheet .entry))) ⌝ }

@@ -1,10 +1,8 @@
-pub mod Rules
-pub mod Split
-pub mod Marks
-pub mod Memo
-pub mod Noting
-pub mod Walk
-pub mod Marking
-pub mod Answering
+pub mod Lists
+pub mod Numbers
+pub mod Absents
 pub mod Level
+pub mod Split
+pub mod Opens
 pub mod Sweeps
+pub mod Rules

@@ -21,12 +21,16 @@ judged text = in-tree (read text)
 -- ---- rule 15
 
 -- a child that is listed twice: the later entry is at fault
-child-twice : judged (ascii "{\"CityObjects\":{\"a\":{\"type\":\"Building\",\"children\":[\"b\",\"b\"]},\"b\":{\"type\":\"BuildingPart\",\"parents\":[\"a\"]}}}") ≡ fault 15 55
+child-twice :
+    judged (ascii "{\"CityObjects\":{\"a\":{\"type\":\"Building\",\"children\":[\"b\",\"b\"]},\"b\":{\"type\":\"BuildingPart\",\"parents\":[\"a\"]}}}")
+    ≡ fault 15 55
 unfolding judged
 child-twice = refl
 
 -- entries are compared as decoded: \u0062 is b
-child-twice-decoded : judged (ascii "{\"CityObjects\":{\"a\":{\"type\":\"Building\",\"children\":[\"b\",\"\\u0062\"]},\"b\":{\"type\":\"BuildingPart\",\"parents\":[\"a\"]}}}") ≡ fault 15 55
+child-twice-decoded :
+    judged (ascii "{\"CityObjects\":{\"a\":{\"type\":\"Building\",\"children\":[\"b\",\"\\u0062\"]},\"b\":{\"type\":\"BuildingPart\",\"parents\":[\"a\"]}}}")
+    ≡ fault 15 55
 unfolding judged
 child-twice-decoded = refl
 
@@ -46,7 +50,9 @@ unfolding judged
 group-child-absent = refl
 
 -- one ID in two lists is not listed twice in one
-both-lists : judged (ascii "{\"CityObjects\":{\"a\":{\"type\":\"Building\",\"children\":[\"b\"],\"parents\":[\"b\"]},\"b\":{\"type\":\"Building\",\"children\":[\"a\"],\"parents\":[\"a\"]}}}") ≡ noFault
+both-lists :
+    judged (ascii "{\"CityObjects\":{\"a\":{\"type\":\"Road\",\"children\":[\"b\"],\"parents\":[\"b\"]},\"b\":{\"type\":\"Road\",\"children\":[\"a\"],\"parents\":[\"a\"]}}}")
+    ≡ noFault
 unfolding judged
 both-lists = refl
 
@@ -100,6 +106,8 @@ unfolding judged
 group-listed = refl
 
 -- a link with both sides
-two-sided : judged (ascii "{\"CityObjects\":{\"a\":{\"type\":\"Building\",\"children\":[\"b\"]},\"b\":{\"type\":\"BuildingPart\",\"parents\":[\"a\"]}}}") ≡ noFault
+two-sided :
+    judged (ascii "{\"CityObjects\":{\"a\":{\"type\":\"Building\",\"children\":[\"b\"]},\"b\":{\"type\":\"BuildingPart\",\"parents\":[\"a\"]}}}")
+    ≡ noFault
 unfolding judged
 two-sided = refl

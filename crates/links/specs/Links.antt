@@ -7,20 +7,10 @@ use mathlib.Core.Option.{Option, some}
 use mathlib.Core.Option as option
 use Rattle.words.specs.Words.{objectWords, codeOf, is, isSecondLevel}
 use Rattle.json.specs.Tree.{Json}
-use Rattle.nodes.specs.Access.{isStringValue, elements, Member, nameOf, textOf, find, firstNamed}
+use Rattle.nodes.specs.Access.{isStringValue, Member, nameOf, textOf, firstNamed}
 use Rattle.everywhere.specs.Everywhere.{among}
 use Rattle.shapes.specs.Checks.{unless, isSome, isEmpty}
-use Rattle.fields.specs.Fields.{typeText, objectsOf}
-
--- what an object lists under a name
-unfoldable pub elementsIn : Option Json → List Json
-unfolding elements
-elementsIn option.none = []
-elementsIn (some v) = elements v
-
-unfoldable pub listedIn : String → Json → List Json
-unfolding elementsIn find
-listedIn name o = elementsIn (find name o)
+use Rattle.fields.specs.Fields.{listedIn, typeText, objectsOf}
 
 -- the IDs among listed values: the strings, as decoded
 unfoldable pub idsAmong : List Json → List (List ℕ)

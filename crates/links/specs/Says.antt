@@ -1,156 +1,159 @@
 -- What the functions over links ask and tell.
 use mathlib.Core.Path.{_≡_}
-use mathlib.Core.Bool.{Bool, false}
-use mathlib.Core.List.{List, [], _∷_, _++_}
-use mathlib.Core.Option.{Option}
-use mathlib.Core.Logic.{_⊎_}
-use Prim.Native.Nat.{ℕ, zero, suc, _+_, _*_, _<_, _≤_}
+use mathlib.Core.Bool.{false}
+use mathlib.Core.List.{List, [], _∷_, _++_, map}
+use Prim.Native.Nat.{ℕ, _+_, _*_, _<_, _≤_}
 use Prim.Native.String.{String}
 use lib.ListN.{length, getD}
 use Rattle.words.specs.Words as word
-use Rattle.grid.specs.Grid.{holds}
 use Rattle.json.specs.Tree.{Json}
 use Rattle.json.specs.Table.{Sub}
+use Rattle.model.specs.Code.{concatMap}
 use Rattle.model.specs.Model.{objectNumber}
-use Rattle.nodes.specs.Access.{Member, find}
+use Rattle.nodes.specs.Access.{Member, elements}
 use Rattle.nodes.specs.Faults.{least}
-use Rattle.everywhere.specs.Parts.{textAt}
-use Rattle.nodes.specs.Says.{Finds, Seeks, Gives, GivesFound}
-use Rattle.nodes.specs.declared.Found.{Found}
-use Rattle.nodes.specs.declared.Found.the-variants.{At, Nothing}
-use Rattle.fields.specs.Fields.{typeText, objectsOf}
-use Rattle.fields.specs.Says.{Indexed}
-use Rattle.fields.specs.declared.Index.{Index}
-use Rattle.ids.specs.Says.{Offsets, Objects, Chains, namesOf}
-use Rattle.links.specs.Links.{elementsIn, listedIn, idsAmong, linksOfEach, linkFaults}
-use Rattle.links.specs.Passes.{absentAt, absent, openAt, openIn, absentOf, openOf, absentOfEach, openOfEach, marks}
+use Rattle.nodes.specs.Says.{Node}
+use Rattle.fields.specs.Fields.{listedIn, typeText, objectsOf}
+use Rattle.utf8.specs.Ascii.{ascii}
+use Rattle.ids.specs.Says.{Offsets, Objects, namesOf}
+use Rattle.marks.specs.Says.{Row}
+use Rattle.rows.specs.Rows.{linkNumber, linkNumbers}
+use Rattle.rows.specs.Says.{Listed}
+use Rattle.links.specs.Links.{idsAmong, parentLink, linksOfEach, linkFaults}
+use Rattle.links.specs.Passes.{absentAt, absent, listedUnder, absentUnder, openAt, openIn, openChildren, openParents}
 
--- the objects, and the chains of their IDs
-pub record Numbered (x t offsets : List ℕ) (count : ℕ) (heads nexts : List ℕ) : Type 0 where
-  pub objects : Objects x t offsets count
-  pub chains : Chains x t offsets count heads nexts
+-- the numbers of the objects that some IDs name
+unfoldable pub numbersOf : List Member → List (List ℕ) → List ℕ
+numbersOf ms ids = map (objectNumber (namesOf ms)) ids
 
--- what the memo has at q is 0, or one more than the number of the object whose ID is the text at the node 3 q
-pub record Kept (x t offsets : List ℕ) (count : ℕ) (memo : List ℕ) : Type 0 where
-  pub room : length memo ≡ 32784
-  pub is : (ms : List Member) → Offsets x t ms offsets count → (q : ℕ) → (getD memo q 0 ≡ 0) ⊎ (getD memo q 0 ≡ objectNumber (namesOf ms) (textAt x t (3 * q)) + 1)
-
--- no two objects have the same ID: the number of each ID is its place
-pub record Alone (x t offsets : List ℕ) (count : ℕ) : Type 0 where
-  pub is : (ms : List Member) → Offsets x t ms offsets count → (k : ℕ) → k < count → objectNumber (namesOf ms) (getD (namesOf ms) k []) ≡ k
-
--- the IDs of a list of values and those that were listed before, the last first
-unfoldable pub seen : List (List ℕ) → List Json → List (List ℕ)
-unfolding idsAmong
-seen earlier [] = earlier
-seen earlier (v ∷ vs) = seen (idsAmong (v ∷ []) ++ earlier) vs
-
--- the row of the set g has the numbers of just the objects that some IDs name
-pub record Row (names : List (List ℕ)) (g : List ℕ) (row : ℕ) (ids : List (List ℕ)) : Type 0 where
-  pub is : (n : ℕ) → n < length names → holds g row n ≡ marks names ids n
-
--- the sets g and g′ differ in one row at most
-pub record Beside (g g′ : List ℕ) (row : ℕ) : Type 0 where
+-- r is the least of best and of the fault of rule 15 of the value at the node k, of which the number is that of its object; the set g has those
+-- listed earlier, g′ this one too
+pub record AbsentGives (x t : List ℕ) (k number count : ℕ) (g g′ : List ℕ) (best r : ℕ) : Type 0 where
   pub room : length g′ ≡ length g
-  pub others : (a b : ℕ) → a * 128 + 128 ≤ length g → b < 1024 → (a ≡ row → ⊥) → holds g′ a b ≡ holds g a b
+  pub is : (ms : List Member) → count ≡ length ms → (v : Json) → Sub x t k v → number ≡ linkNumber (namesOf ms) v
+      → (earlier : List (List ℕ)) → Row count g 0 (numbersOf ms earlier)
+      → (r ≡ least best (absentAt ms earlier v)) × (Row count g′ 0 (numbersOf ms (idsAmong (v ∷ []) ++ earlier)))
 
--- r is the least of best and of the fault of rule 15 of the value at the node k, whose object is then in the row
-pub record MarkGives (x t offsets : List ℕ) (count row k : ℕ) (g g′ : List ℕ) (best r : ℕ) : Type 0 where
-  pub beside : Beside g g′ row
-  pub is : (ms : List Member) → Offsets x t ms offsets count → (earlier : List (List ℕ)) → Row (namesOf ms) g row earlier → (v : Json) → Sub x t k v
-      → (r ≡ least best (absentAt ms earlier v)) × (Row (namesOf ms) g′ row (idsAmong (v ∷ []) ++ earlier))
+-- there is a number for each element of a value that stands at the node i
+pub record Sized (x t : List ℕ) (i : ℕ) (ns : List ℕ) : Type 0 where
+  pub node : Node x t i
+  pub all : length ns ≡ length (elements (node .value))
 
--- the same of the list that was found, where the row was empty
-pub record MarksGive (x t offsets : List ℕ) (count row : ℕ) (found : Found) (g g′ : List ℕ) (best r : ℕ) : Type 0 where
-  pub beside : Beside g g′ row
-  pub is : (ms : List Member) → Offsets x t ms offsets count → Row (namesOf ms) g row [] → (o : Option Json) → Finds x t o found
-      → (r ≡ least best (absent ms [] (elementsIn o))) × (Row (namesOf ms) g′ row (seen [] (elementsIn o)))
+-- r is the least of best and of the faults of rule 15 of the list that stands at the node i, of which the numbers are those of its objects
+pub record AbsentsGive (x t : List ℕ) (i : ℕ) (ns : List ℕ) (count best r : ℕ) : Type 0 where
+  pub is : (ms : List Member) → count ≡ length ms → (v : Json) → Sub x t i v → ns ≡ map (linkNumber (namesOf ms)) (elements v)
+      → r ≡ least best (absent ms [] (elements v))
 
--- the rows of g before the k-th have what the objects list under a name, the others are empty
-pub record RowsTo (ms : List Member) (name : String) (g : List ℕ) (k : ℕ) : Type 0 where
-  pub done : (j : ℕ) (d : Member) → j < k → Row (namesOf ms) g j (seen [] (listedIn name (getD ms j d .1)))
-  pub left : (j : ℕ) → k ≤ j → j < length ms → Row (namesOf ms) g j []
+-- there is a number for each value that the value at the node i lists under a name
+pub record SizedUnder (x t : List ℕ) (i : ℕ) (name ns : List ℕ) : Type 0 where
+  pub node : Node x t i
+  pub all : length ns ≡ length (listedUnder name (node .value))
 
--- what a note of what was found tells: nothing if it is 0, otherwise the node that is one less
-unfoldable pub toldOf : ℕ → Found
-toldOf zero = Nothing
-toldOf (suc i) = At i
+-- rule 15 of what the value at the node i lists under a name
+pub record AbsentUnder (x t : List ℕ) (i : ℕ) (name ns : List ℕ) (count best r : ℕ) : Type 0 where
+  pub is : (ms : List Member) → count ≡ length ms → (v : Json) → Sub x t i v → ns ≡ map (linkNumber (namesOf ms)) (listedUnder name v)
+      → r ≡ least best (absent ms [] (listedUnder name v))
 
--- the node that was found, if any was, is below n
-pub record Below (found : Found) (n : ℕ) : Type 0 where
-  pub is : (i : ℕ) → found ≡ At i → i < n
+-- the objects, and the rows of what they list under a name, which is given as bytes
+pub record ListedAs (x t offsets name rows : List ℕ) : Type 0 where
+  pub objects : Objects x t offsets
+  pub word : String
+  pub bytes : name ≡ ascii word
+  pub listed : Listed x t offsets word rows
 
--- the notes of the first k objects tell what they have under a name
-pub record NotedTo (x t offsets : List ℕ) (name : String) (notes : List ℕ) (k : ℕ) : Type 0 where
-  pub room : length notes ≡ 1024
-  pub is : (j : ℕ) → j < k → Seeks (λ v. find name v) x t (getD offsets j 0 + 3) (toldOf (getD notes j 0))
+-- r is the least of best and of the faults f of the object of number k, where the first argument of f are all objects
+pub record ObjectGives (x t offsets : List ℕ) (f : List Member → Member → List ℕ) (k best r : ℕ) : Type 0 where
+  pub is : (ms : List Member) → Offsets x t ms offsets → (d : Member) → r ≡ least best (f ms (getD ms k d))
 
--- the notes of both lists
-pub record Notes (x t offsets downs ups : List ℕ) (k : ℕ) : Type 0 where
-  pub children : NotedTo x t offsets "children" downs k
-  pub parents : NotedTo x t offsets "parents" ups k
+-- the same of all objects
+pub record AllGive (x t offsets : List ℕ) (f : List Member → Member → List ℕ) (best r : ℕ) : Type 0 where
+  pub is : (ms : List Member) → Offsets x t ms offsets → r ≡ least best (concatMap (f ms) ms)
 
--- rule 15 of the object of number k: the rows of its children and parents are filled
-pub record ObjectMarks (x t offsets : List ℕ) (count k : ℕ) (c c′ p p′ : List ℕ) (best r : ℕ) : Type 0 where
-  pub children : length c′ ≡ length c
-  pub parents : length p′ ≡ length p
-  pub is : (ms : List Member) → Offsets x t ms offsets count → (d : Member) → RowsTo ms "children" c k → RowsTo ms "parents" p k
-      → (r ≡ least best (absentOf ms (getD ms k d))) × (RowsTo ms "children" c′ (k + 1)) × (RowsTo ms "parents" p′ (k + 1))
+-- the set g has a row for each object, with the numbers of what it lists under `back`
+pub record OtherSide (ms : List Member) (back : String) (g : List ℕ) : Type 0 where
+  pub room : length g ≡ length ms * 128
+  pub few : length ms ≤ 1024
+  pub is : (n : ℕ) (d : Member) → n < length ms → Row (length ms) g n (linkNumbers (namesOf ms) back (getD ms n d .1))
 
--- rule 15 of all objects: all rows are filled
-pub record AllMarks (x t offsets : List ℕ) (count : ℕ) (c c′ p p′ : List ℕ) (best r : ℕ) : Type 0 where
-  pub children : length c′ ≡ length c
-  pub parents : length p′ ≡ length p
-  pub is : (ms : List Member) → Offsets x t ms offsets count → RowsTo ms "children" c 0 → RowsTo ms "parents" p 0
-      → (r ≡ least best (absentOfEach ms ms)) × (RowsTo ms "children" c′ count) × (RowsTo ms "parents" p′ count)
+-- rule 15 of what all objects list under a name; the set g, which was g₀, has it then
+pub record Fills (x t offsets name g₀ g : List ℕ) (best r : ℕ) : Type 0 where
+  pub faults : AllGive x t offsets (absentUnder name) best r
+  pub room : length g ≡ length g₀
+  pub set : (ms : List Member) → Offsets x t ms offsets → (back : String) → name ≡ ascii back → OtherSide ms back g
 
--- the sets have what all objects list
-pub record Filled (x t offsets : List ℕ) (count : ℕ) (c p : List ℕ) : Type 0 where
-  pub below : count * 128 ≤ length c
-  pub above : count * 128 ≤ length p
-  pub children : (ms : List Member) → Offsets x t ms offsets count → RowsTo ms "children" c count
-  pub parents : (ms : List Member) → Offsets x t ms offsets count → RowsTo ms "parents" p count
+-- the objects, no two of which have the same ID: the number of each ID is its place. The rows have what they list under a name, and the set what they
+-- list under `back`
+pub record Links (x t offsets : List ℕ) (name : String) (rows : List ℕ) (back : String) (g : List ℕ) : Type 0 where
+  pub objects : Objects x t offsets
+  pub alone : (ms : List Member) → Offsets x t ms offsets → (k : ℕ) → k < length offsets → objectNumber (namesOf ms) (getD (namesOf ms) k []) ≡ k
+  pub listed : Listed x t offsets name rows
+  pub set : (ms : List Member) → Offsets x t ms offsets → OtherSide ms back g
 
--- r is the least of best and of the fault of rule 17 of the value at the node k, of a list of the object of number `own`, where g has what all objects list under `back`
-pub record OpenGives (x t offsets : List ℕ) (count own k : ℕ) (g : List ℕ) (best r : ℕ) : Type 0 where
-  pub is : (ms : List Member) → Offsets x t ms offsets count → (back : String) → RowsTo ms back g count → (id : List ℕ) → own ≡ objectNumber (namesOf ms) id
-      → Gives (λ s. least best (openAt ms back id false s)) x t k r
+-- r is the least of best and of the fault of rule 17 of the value at the node k, of a list of the object of number `own`
+pub record OpenGives (x t : List ℕ) (k number : ℕ) (g : List ℕ) (own best r : ℕ) : Type 0 where
+  pub is : (ms : List Member) (back : String) → OtherSide ms back g → (id : List ℕ) → own ≡ objectNumber (namesOf ms) id → own < length ms
+      → (v : Json) → Sub x t k v → number ≡ linkNumber (namesOf ms) v → r ≡ least best (openAt ms back id false v)
 
--- the same of the list that was found, unless it is excused
-pub record OpensGive (x t offsets : List ℕ) (count own : ℕ) (excused : Bool) (found : Found) (g : List ℕ) (best r : ℕ) : Type 0 where
-  pub is : (ms : List Member) → Offsets x t ms offsets count → (back : String) → RowsTo ms back g count → (id : List ℕ) → own ≡ objectNumber (namesOf ms) id
-      → GivesFound (λ o. least best (openIn ms back id excused (elementsIn o))) x t found r
+-- the same of the list that stands at the node i
+pub record OpensGive (x t : List ℕ) (i : ℕ) (ns g : List ℕ) (own best r : ℕ) : Type 0 where
+  pub is : (ms : List Member) (back : String) → OtherSide ms back g → (id : List ℕ) → own ≡ objectNumber (namesOf ms) id → own < length ms
+      → (v : Json) → Sub x t i v → ns ≡ map (linkNumber (namesOf ms)) (elements v) → r ≡ least best (openIn ms back id false (elements v))
 
--- the same of the children that were found of the object at the node i, which are excused if it is a group
-pub record ChildrenGive (x t offsets : List ℕ) (count own i : ℕ) (found : Found) (g : List ℕ) (best r : ℕ) : Type 0 where
-  pub is : (v : Json) → Sub x t i v → OpensGive x t offsets count own (word.is "CityObjectGroup" (typeText v)) found g best r
+-- the same of what the value at the node i lists under a name
+pub record OpenUnder (x t : List ℕ) (i : ℕ) (name ns g : List ℕ) (own best r : ℕ) : Type 0 where
+  pub is : (ms : List Member) (back : String) → OtherSide ms back g → (id : List ℕ) → own ≡ objectNumber (namesOf ms) id → own < length ms
+      → (v : Json) → Sub x t i v → ns ≡ map (linkNumber (namesOf ms)) (listedUnder name v) → r ≡ least best (openIn ms back id false (listedUnder name v))
 
--- rules 16 and 17 of the object of number k, and of all objects
-pub record ObjectOpens (x t offsets : List ℕ) (count k best r : ℕ) : Type 0 where
-  pub is : (ms : List Member) → Offsets x t ms offsets count → (d : Member) → r ≡ least best (openOf ms (getD ms k d))
+-- the same of its children, which are excused if it is a group
+pub record ChildrenOpen (x t : List ℕ) (i : ℕ) (ns g : List ℕ) (own best r : ℕ) : Type 0 where
+  pub is : (ms : List Member) (back : String) → OtherSide ms back g → (id : List ℕ) → own ≡ objectNumber (namesOf ms) id → own < length ms
+      → (v : Json) → Sub x t i v → ns ≡ map (linkNumber (namesOf ms)) (listedIn "children" v)
+      → r ≡ least best (openIn ms back id (word.is "CityObjectGroup" (typeText v)) (listedIn "children" v))
 
-pub record AllOpens (x t offsets : List ℕ) (count best r : ℕ) : Type 0 where
-  pub is : (ms : List Member) → Offsets x t ms offsets count → r ≡ least best (openOfEach ms ms)
+-- rule 16 of the object at the node i, which lists so many parents
+pub record ParentGives (x t : List ℕ) (i count best r : ℕ) : Type 0 where
+  pub is : (v : Json) → Sub x t i v → count ≡ length (listedIn "parents" v) → r ≡ least best (parentLink v)
+
+-- rules 16 and 17 of all objects
+pub record OpenFaults (x t offsets : List ℕ) (best r : ℕ) : Type 0 where
+  pub is : (ms : List Member) → Offsets x t ms offsets → r ≡ least (least best (concatMap (openChildren ms) ms)) (concatMap (openParents ms) ms)
 
 -- the set g is empty, and has a row for each of `count` objects
 pub record Empty (g : List ℕ) (count : ℕ) : Type 0 where
-  pub room : count * 128 ≤ length g
+  pub room : length g ≡ count * 128
   pub clear : (i : ℕ) → getD g i 0 ≡ 0
 
--- rules 15 to 17 of all objects
-pub record AllGive (x t offsets : List ℕ) (count best r : ℕ) : Type 0 where
-  pub is : (ms : List Member) → Offsets x t ms offsets count → r ≡ least best (linksOfEach ms ms)
+-- the objects, no two of which have the same ID, with the rows of what they list
+pub record Town (x t offsets children parents : List ℕ) : Type 0 where
+  pub objects : Objects x t offsets
+  pub alone : (ms : List Member) → Offsets x t ms offsets → (k : ℕ) → k < length offsets → objectNumber (namesOf ms) (getD (namesOf ms) k []) ≡ k
+  pub below : Listed x t offsets "children" children
+  pub above : Listed x t offsets "parents" parents
 
--- a value of a text that is short enough stands at the node 0, and it has at most 1,024 city objects (rule 9), of which the index is
-pub record Ready (x t : List ℕ) (index : Index) : Type 0 where
+-- rule 15 of all objects; the sets c and p, which were c₀ and p₀, have who lists whom as a child, and as a parent
+pub record Marks (x t offsets children parents c₀ c p₀ p : List ℕ) (best r : ℕ) : Type 0 where
+  pub faults : (ms : List Member) → Offsets x t ms offsets
+      → r ≡ least (least best (concatMap (absentUnder (ascii "children") ms) ms)) (concatMap (absentUnder (ascii "parents") ms) ms)
+  pub room-below : length c ≡ length c₀
+  pub room-above : length p ≡ length p₀
+  pub up : Links x t offsets "children" children "parents" p
+  pub down : Links x t offsets "parents" parents "children" c
+
+-- rules 15 to 17 of all objects
+pub record LinkFaults (x t offsets : List ℕ) (best r : ℕ) : Type 0 where
+  pub is : (ms : List Member) → Offsets x t ms offsets → r ≡ least best (linksOfEach ms ms)
+
+-- a value of a text that is short enough stands at the node 0; the offsets are those of its city objects, no two of which have the same ID (rule 6),
+-- and the rows have what they list
+pub record Ready (x t offsets children parents : List ℕ) : Type 0 where
   pub value : Json
   pub stands : Sub x t 0 value
   pub short : length x ≤ 65535
-  pub few : length (objectsOf value) ≤ 1024
-  pub indexed : (v : Json) → Sub x t 0 v → Indexed x t (objectsOf v) index
-  -- no two city objects have the same ID (rule 6)
+  pub indexed : (v : Json) → Sub x t 0 v → Offsets x t (objectsOf v) offsets
   pub alone : (k : ℕ) → k < length (objectsOf value) → objectNumber (namesOf (objectsOf value)) (getD (namesOf (objectsOf value)) k []) ≡ k
+  pub below : Listed x t offsets "children" children
+  pub above : Listed x t offsets "parents" parents
 
--- r is the least of best and the faults of the links of the value that stands at the node 0, if it has at most 1,024 city objects
+-- r is the least of best and the faults of the links of the value that stands at the node 0
 pub record LinksGive (x t : List ℕ) (best r : ℕ) : Type 0 where
-  pub is : (v : Json) → Sub x t 0 v → length (objectsOf v) ≤ 1024 → r ≡ least best (linkFaults v)
+  pub is : (v : Json) → Sub x t 0 v → r ≡ least best (linkFaults v)

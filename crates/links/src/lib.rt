@@ -1,348 +1,180 @@
-// Rules 15 to 17 over the node table of a text and the index of its city objects. Each function that looks for faults takes the least so far and gives the least.
+// Rules 15 to 17 over the node table of a text, the offsets of its city objects and the rows of the numbers of the objects that they list.
+// Each function that looks for faults takes the least so far and gives the least.
 // Rule 15 goes first and fills two sets of pairs of objects' numbers: who lists whom as a child, and who lists whom as a parent. Rule 17 then asks the sets.
-// What rule 15 looked up, the numbers of the linked objects and where the lists stand, is kept for rules 16 and 17.
-use fields::Index;
+// Rows are judged by their numbers; only where one breaks a rule is its list looked up, for the places.
 use nodes::Found;
-ghost use Prim.Native.Nat.{ℕ, _+_, _*_, _<_, _≤_};
-ghost use mathlib.Core.Path.{_≡_};
+ghost use Prim.Native.Nat.{_<_, _≤_};
 ghost use lib.ListN.{length};
-ghost use mathlib.Core.Bool.{false};
+ghost use Rattle.utf8.specs.Ascii.{ascii};
 ghost use Rattle.words.specs.Words.{objectWords, codeOf, is, isSecondLevel};
-ghost use Rattle.nodes.specs.Access as access;
-ghost use Rattle.nodes.specs.Faults.{least};
-ghost use Rattle.nodes.specs.Says.{Node, Sought, Seeks, Gives, GivesFound};
-ghost use Rattle.nodes.specs.declared.Found.the-variants.{At};
+ghost use Rattle.nodes.specs.Says.{Node, Sought, Gives, GivesFound};
 ghost use Rattle.fields.specs.Fields.{textIn, typeText};
-ghost use Rattle.ids.specs.Says.{TextNode, Objects, Numbers};
-ghost use Rattle.links.specs.Links.{parentLink};
-ghost use Rattle.links.specs.Says.{Numbered, Kept, Alone, MarkGives, MarksGive, toldOf, Below, Notes, ObjectMarks, AllMarks, Filled, OpenGives, OpensGive, ChildrenGive, ObjectOpens, AllOpens, Empty, AllGive, Ready, LinksGive};
+ghost use Rattle.marks.specs.Says.{Whole};
+ghost use Rattle.links.specs.Passes.{absentUnder, openChildren, openParents};
+ghost use Rattle.links.specs.Says.{AbsentGives, Sized, AbsentsGive, SizedUnder, AbsentUnder, ListedAs, ObjectGives, AllGive, Fills, OpenGives, OpensGive, OpenUnder, ChildrenOpen, Links, ParentGives, OpenFaults, Empty, Town, Marks, LinkFaults, Ready, LinksGive};
 
-// A number of the memo, as a number of full width.
-fn wide(w: u16) -> usize
-    ensures { λ r. ⌜ r ≡ w ⌝ }
-{
-    w as usize
-}
-
-// The number of the object whose ID is the string at node k, which is also noted in the memo.
-fn number_noted(
+// Rule 15 of the value at node k, if it is a string, after those whose objects are in the set. Then its object is.
+fn absent(
     text: &[u8],
     table: &[u32],
-    offsets: &[usize; 1024],
-    count: usize,
-    heads: &[u16; 4096],
-    nexts: &[u16; 1024],
-    memo: &mut [u16; 32784],
     k: usize,
-) -> usize
-    requires { ⌜ (Numbered (now text) (now table) (now offsets) count (now heads) (now nexts)) × (TextNode (now text) (now table) k) × (Kept (now text) (now table) (now offsets) count (now memo)) ⌝ }
-    ensures { λ r. ⌜ (Numbers (now (text .entry)) (now (table .entry)) (now (offsets .entry)) count k r) × (Kept (now (text .entry)) (now (table .entry)) (now (offsets .entry)) count (now (memo .exit))) ⌝ }
-{
-    let r = ids::number(text, table, offsets, count, heads, nexts, k);
-    let q = k / 3;
-    if q < 32784 {
-        if 3 * q == k {
-            memo[q] = (r + 1) as u16;
-        }
-    }
-    r
-}
-
-// The same number, from the memo if it is there.
-fn number_again(
-    text: &[u8],
-    table: &[u32],
-    offsets: &[usize; 1024],
+    number: usize,
     count: usize,
-    heads: &[u16; 4096],
-    nexts: &[u16; 1024],
-    memo: &[u16; 32784],
-    k: usize,
-) -> usize
-    requires { ⌜ (Numbered (now text) (now table) (now offsets) count (now heads) (now nexts)) × (TextNode (now text) (now table) k) × (Kept (now text) (now table) (now offsets) count (now memo)) ⌝ }
-    ensures { λ r. ⌜ Numbers (now (text .entry)) (now (table .entry)) (now (offsets .entry)) count k r ⌝ }
-{
-    let q = k / 3;
-    if q < 32784 {
-        if 3 * q == k {
-            let e = wide(memo[q]);
-            if e != 0 {
-                return e - 1;
-            }
-        }
-    }
-    ids::number(text, table, offsets, count, heads, nexts, k)
-}
-
-// What was found as one number: one more than its node, 0 for nothing.
-fn note_of(found: Found) -> usize
-    requires { ⌜ Below found 9223372036854775808 ⌝ }
-    ensures { λ r. ⌜ toldOf r ≡ found ⌝ }
-{
-    let Found::At(i) = found else {
-        return 0;
-    };
-    i + 1
-}
-
-// What such a number tells.
-fn told(note: usize) -> Found
-    ensures { λ r. ⌜ r ≡ toldOf note ⌝ }
-{
-    if note == 0 {
-        return Found::Nothing;
-    }
-    Found::At(note - 1)
-}
-
-// Rule 15 of the value at node k, if it is a string, of a list of the object of number `row`: its object is there, and not yet in the row of the set. Then it is.
-fn mark(
-    text: &[u8],
-    table: &[u32],
-    offsets: &[usize; 1024],
-    count: usize,
-    heads: &[u16; 4096],
-    nexts: &[u16; 1024],
-    memo: &mut [u16; 32784],
-    set: &mut [u8],
-    row: usize,
-    k: usize,
+    seen: &mut [u8],
     best: u32,
 ) -> u32
-    requires { ⌜ (Numbered (now text) (now table) (now offsets) count (now heads) (now nexts)) × (Node (now text) (now table) k) × (row * 128 + 128 ≤ length (now set)) × (Kept (now text) (now table) (now offsets) count (now memo)) ⌝ }
-    ensures { λ r. ⌜ (MarkGives (now (text .entry)) (now (table .entry)) (now (offsets .entry)) count row k (now (set .entry)) (now (set .exit)) best r) × (Kept (now (text .entry)) (now (table .entry)) (now (offsets .entry)) count (now (memo .exit))) ⌝ }
+    requires { ⌜ (Node (now text) (now table) k) × (128 ≤ length (now seen)) × (count ≤ 1024) ⌝ }
+    ensures { λ r. ⌜ AbsentGives (now (text .entry)) (now (table .entry)) k number count (now (seen .entry)) (now (seen .exit)) best r ⌝ }
 {
     if !nodes::is_string(text, table, k) {
         return best;
     }
-    let other = number_noted(text, table, offsets, count, heads, nexts, memo, k);
-    if other >= count {
+    if marks::mark(seen, 0, number, count) != 0 {
         return shapes::unless(false, 15, text, table, k, best);
     }
-    if grid::has(set, row, other) {
-        return shapes::unless(false, 15, text, table, k, best);
-    }
-    grid::put(set, row, other);
     best
 }
 
-// Rule 15 of the value at node i, a list of the object of number `row`, whose row of the set is empty; afterwards it has the objects of the list.
-fn mark_list(
+// Rule 15 of the list at node i, of which the numbers are those of its objects.
+fn absent_list(
     text: &[u8],
     table: &[u32],
-    offsets: &[usize; 1024],
-    count: usize,
-    heads: &[u16; 4096],
-    nexts: &[u16; 1024],
-    memo: &mut [u16; 32784],
-    set: &mut [u8],
-    row: usize,
     i: usize,
+    numbers: &[u16],
+    count: usize,
     best: u32,
 ) -> u32
-    requires { ⌜ (Numbered (now text) (now table) (now offsets) count (now heads) (now nexts)) × (Node (now text) (now table) i) × (row * 128 + 128 ≤ length (now set)) × (Kept (now text) (now table) (now offsets) count (now memo)) ⌝ }
-    ensures { λ r. ⌜ (MarksGive (now (text .entry)) (now (table .entry)) (now (offsets .entry)) count row (At i) (now (set .entry)) (now (set .exit)) best r) × (Kept (now (text .entry)) (now (table .entry)) (now (offsets .entry)) count (now (memo .exit))) ⌝ }
+    requires { ⌜ (Sized (now text) (now table) i (now numbers)) × (count ≤ 1024) ⌝ }
+    ensures { λ r. ⌜ AbsentsGive (now (text .entry)) (now (table .entry)) i (now (numbers .entry)) count best r ⌝ }
 {
     if !nodes::is_array(text, table, i) {
         return best;
     }
+    let mut space: [u8; 128] = [0; 128];
+    let seen: &mut [u8] = &mut space;
     let n = nodes::next(table, i);
     let mut least = best;
     let mut k = i + 3;
+    let mut j = 0;
     while k < n {
-        least = mark(
-            text,
-            table,
-            offsets,
-            count,
-            heads,
-            nexts,
-            memo,
-            set,
-            row,
-            k,
-            least,
-        );
-        k = nodes::next(table, k);
+        let number = marks::word(numbers, j);
+        let next = nodes::next(table, k);
+        j += 1;
+        least = absent(text, table, k, number, count, seen, least);
+        k = next;
     }
     least
 }
 
-// The same of what was found under the list's name. Most objects have no such list.
-fn mark_found(
+// Rule 15 of what the object at node i lists under a name.
+fn absent_member(
     text: &[u8],
     table: &[u32],
-    offsets: &[usize; 1024],
+    i: usize,
+    name: &[u8],
+    numbers: &[u16],
     count: usize,
-    heads: &[u16; 4096],
-    nexts: &[u16; 1024],
-    memo: &mut [u16; 32784],
-    set: &mut [u8],
-    row: usize,
-    found: Found,
     best: u32,
 ) -> u32
-    requires { ⌜ (Numbered (now text) (now table) (now offsets) count (now heads) (now nexts)) × (Sought (now text) (now table) found) × (row * 128 + 128 ≤ length (now set)) × (Kept (now text) (now table) (now offsets) count (now memo)) ⌝ }
-    ensures { λ r. ⌜ (MarksGive (now (text .entry)) (now (table .entry)) (now (offsets .entry)) count row found (now (set .entry)) (now (set .exit)) best r) × (Kept (now (text .entry)) (now (table .entry)) (now (offsets .entry)) count (now (memo .exit))) ⌝ }
+    requires { ⌜ (SizedUnder (now text) (now table) i (now name) (now numbers)) × (count ≤ 1024) ⌝ }
+    ensures { λ r. ⌜ AbsentUnder (now (text .entry)) (now (table .entry)) i (now (name .entry)) (now (numbers .entry)) count best r ⌝ }
 {
-    let Found::At(i) = found else {
+    let found = nodes::member(text, table, i, name);
+    let Found::At(k) = found else {
         return best;
     };
-    mark_list(
-        text,
-        table,
-        offsets,
-        count,
-        heads,
-        nexts,
-        memo,
-        set,
-        row,
-        i,
-        best,
-    )
+    absent_list(text, table, k, numbers, count, best)
 }
 
-// Rule 15 of the object of number k; afterwards the sets have what it lists, and its lists are noted.
-fn mark_object(
+// Rule 15 of what the object of number k lists under a name.
+fn absent_object(
     text: &[u8],
     table: &[u32],
-    offsets: &[usize; 1024],
-    count: usize,
-    heads: &[u16; 4096],
-    nexts: &[u16; 1024],
-    memo: &mut [u16; 32784],
-    downs: &mut [usize; 1024],
-    ups: &mut [usize; 1024],
-    children: &mut [u8],
-    parents: &mut [u8],
+    offsets: &[usize],
+    name: &[u8],
+    rows: &[u16],
     k: usize,
     best: u32,
 ) -> u32
-    requires { ⌜ (Numbered (now text) (now table) (now offsets) count (now heads) (now nexts)) × (k < count) × (count * 128 ≤ length (now children)) × (count * 128 ≤ length (now parents)) × (Kept (now text) (now table) (now offsets) count (now memo)) × (Notes (now text) (now table) (now offsets) (now downs) (now ups) k) ⌝ }
-    ensures { λ r. ⌜ (ObjectMarks (now (text .entry)) (now (table .entry)) (now (offsets .entry)) count k (now (children .entry)) (now (children .exit)) (now (parents .entry)) (now (parents .exit)) best r) × (Kept (now (text .entry)) (now (table .entry)) (now (offsets .entry)) count (now (memo .exit))) × (Notes (now (text .entry)) (now (table .entry)) (now (offsets .entry)) (now (downs .exit)) (now (ups .exit)) (k + 1)) ⌝ }
+    requires { ⌜ (ListedAs (now text) (now table) (now offsets) (now name) (now rows)) × (k < length (now offsets)) ⌝ }
+    ensures { λ r. ⌜ ObjectGives (now (text .entry)) (now (table .entry)) (now (offsets .entry)) (absentUnder (now (name .entry))) k best r ⌝ }
 {
     let own = offsets[k];
-    let i = own + 3;
-    let below = nodes::member(text, table, i, b"children");
-    let above = nodes::member(text, table, i, b"parents");
-    downs[k] = note_of(below);
-    ups[k] = note_of(above);
-    let a = mark_found(
-        text,
-        table,
-        offsets,
-        count,
-        heads,
-        nexts,
-        memo,
-        children,
-        k,
-        below,
-        best,
-    );
-    let Found::At(j) = above else {
-        return a;
-    };
-    mark_list(
-        text,
-        table,
-        offsets,
-        count,
-        heads,
-        nexts,
-        memo,
-        parents,
-        k,
-        j,
-        a,
-    )
+    let numbers = marks::row(rows, k);
+    absent_member(text, table, own + 3, name, numbers, offsets.len(), best)
 }
 
-// Rule 15 of all objects; afterwards the sets, which were empty, have what they list, and all lists are noted.
-fn mark_all(
+// Rule 15 of what all objects list under a name.
+fn absent_all(
     text: &[u8],
     table: &[u32],
-    offsets: &[usize; 1024],
-    count: usize,
-    heads: &[u16; 4096],
-    nexts: &[u16; 1024],
-    memo: &mut [u16; 32784],
-    downs: &mut [usize; 1024],
-    ups: &mut [usize; 1024],
-    children: &mut [u8],
-    parents: &mut [u8],
+    offsets: &[usize],
+    name: &[u8],
+    rows: &[u16],
     best: u32,
 ) -> u32
-    requires { ⌜ (Numbered (now text) (now table) (now offsets) count (now heads) (now nexts)) × (count * 128 ≤ length (now children)) × (count * 128 ≤ length (now parents)) × (Kept (now text) (now table) (now offsets) count (now memo)) × (Notes (now text) (now table) (now offsets) (now downs) (now ups) 0) ⌝ }
-    ensures { λ r. ⌜ (AllMarks (now (text .entry)) (now (table .entry)) (now (offsets .entry)) count (now (children .entry)) (now (children .exit)) (now (parents .entry)) (now (parents .exit)) best r) × (Kept (now (text .entry)) (now (table .entry)) (now (offsets .entry)) count (now (memo .exit))) × (Notes (now (text .entry)) (now (table .entry)) (now (offsets .entry)) (now (downs .exit)) (now (ups .exit)) count) ⌝ }
+    requires { ⌜ ListedAs (now text) (now table) (now offsets) (now name) (now rows) ⌝ }
+    ensures { λ r. ⌜ AllGive (now (text .entry)) (now (table .entry)) (now (offsets .entry)) (absentUnder (now (name .entry))) best r ⌝ }
 {
     let mut least = best;
     let mut k = 0;
-    while k < count {
-        least = mark_object(
-            text,
-            table,
-            offsets,
-            count,
-            heads,
-            nexts,
-            memo,
-            downs,
-            ups,
-            children,
-            parents,
-            k,
-            least,
-        );
+    while k < offsets.len() {
+        least = absent_object(text, table, offsets, name, rows, k, least);
         k += 1;
     }
     least
 }
 
-// Rule 17 of the value at node k, if it is a string, of a list of the object of number `own`: its object has `own` in its row of the set.
-fn answer(
+// Rule 15 of what all objects list under a name, which the set, empty before, has then.
+fn mark_all(
     text: &[u8],
     table: &[u32],
-    offsets: &[usize; 1024],
-    count: usize,
-    heads: &[u16; 4096],
-    nexts: &[u16; 1024],
-    memo: &[u16; 32784],
-    set: &[u8],
-    own: usize,
-    k: usize,
+    offsets: &[usize],
+    name: &[u8],
+    rows: &[u16],
+    set: &mut [u8],
     best: u32,
 ) -> u32
-    requires { ⌜ (Numbered (now text) (now table) (now offsets) count (now heads) (now nexts)) × (Node (now text) (now table) k) × (own < count) × (count * 128 ≤ length (now set)) × (Kept (now text) (now table) (now offsets) count (now memo)) ⌝ }
-    ensures { λ r. ⌜ OpenGives (now (text .entry)) (now (table .entry)) (now (offsets .entry)) count own k (now (set .entry)) best r ⌝ }
+    requires { ⌜ (ListedAs (now text) (now table) (now offsets) (now name) (now rows)) × (Empty (now set) (length (now offsets))) ⌝ }
+    ensures { λ r. ⌜ Fills (now (text .entry)) (now (table .entry)) (now (offsets .entry)) (now (name .entry)) (now (set .entry)) (now (set .exit)) best r ⌝ }
+{
+    if marks::mark_all(set, rows, offsets.len()) == 0 {
+        return best;
+    }
+    absent_all(text, table, offsets, name, rows, best)
+}
+
+// Rule 17 of the value at node k, if it is a string, of a list of the object of number `own`: its object has `own` in its row of the set.
+fn open(
+    text: &[u8],
+    table: &[u32],
+    k: usize,
+    number: usize,
+    set: &[u8],
+    own: usize,
+    best: u32,
+) -> u32
+    requires { ⌜ (Node (now text) (now table) k) × (number < 65536) × (Whole (now set)) × (own < 1024) ⌝ }
+    ensures { λ r. ⌜ OpenGives (now (text .entry)) (now (table .entry)) k number (now (set .entry)) own best r ⌝ }
 {
     if !nodes::is_string(text, table, k) {
         return best;
     }
-    let other = number_again(text, table, offsets, count, heads, nexts, memo, k);
-    if other >= count {
-        return shapes::unless(false, 17, text, table, k, best);
-    }
-    shapes::unless(grid::has(set, other, own), 17, text, table, k, best)
+    shapes::unless(marks::answers(set, own, number), 17, text, table, k, best)
 }
 
-// Rule 17 of the value at node i, a list of the object of number `own`.
-fn answer_list(
+// Rule 17 of the list at node i, of which the numbers are those of its objects.
+fn open_list(
     text: &[u8],
     table: &[u32],
-    offsets: &[usize; 1024],
-    count: usize,
-    heads: &[u16; 4096],
-    nexts: &[u16; 1024],
-    memo: &[u16; 32784],
+    i: usize,
+    numbers: &[u16],
     set: &[u8],
     own: usize,
-    i: usize,
     best: u32,
 ) -> u32
-    requires { ⌜ (Numbered (now text) (now table) (now offsets) count (now heads) (now nexts)) × (Node (now text) (now table) i) × (own < count) × (count * 128 ≤ length (now set)) × (Kept (now text) (now table) (now offsets) count (now memo)) ⌝ }
-    ensures { λ r. ⌜ OpensGive (now (text .entry)) (now (table .entry)) (now (offsets .entry)) count own false (At i) (now (set .entry)) best r ⌝ }
+    requires { ⌜ (Sized (now text) (now table) i (now numbers)) × (Whole (now set)) × (own < 1024) ⌝ }
+    ensures { λ r. ⌜ OpensGive (now (text .entry)) (now (table .entry)) i (now (numbers .entry)) (now (set .entry)) own best r ⌝ }
 {
     if !nodes::is_array(text, table, i) {
         return best;
@@ -350,23 +182,36 @@ fn answer_list(
     let n = nodes::next(table, i);
     let mut least = best;
     let mut k = i + 3;
+    let mut j = 0;
     while k < n {
-        least = answer(
-            text,
-            table,
-            offsets,
-            count,
-            heads,
-            nexts,
-            memo,
-            set,
-            own,
-            k,
-            least,
-        );
-        k = nodes::next(table, k);
+        let number = marks::word(numbers, j);
+        let next = nodes::next(table, k);
+        j += 1;
+        least = open(text, table, k, number, set, own, least);
+        k = next;
     }
     least
+}
+
+// Rule 17 of what the object at node i lists under a name.
+fn open_member(
+    text: &[u8],
+    table: &[u32],
+    i: usize,
+    name: &[u8],
+    numbers: &[u16],
+    set: &[u8],
+    own: usize,
+    best: u32,
+) -> u32
+    requires { ⌜ (SizedUnder (now text) (now table) i (now name) (now numbers)) × (Whole (now set)) × (own < 1024) ⌝ }
+    ensures { λ r. ⌜ OpenUnder (now (text .entry)) (now (table .entry)) i (now (name .entry)) (now (numbers .entry)) (now (set .entry)) own best r ⌝ }
+{
+    let found = nodes::member(text, table, i, name);
+    let Found::At(k) = found else {
+        return best;
+    };
+    open_list(text, table, k, numbers, set, own, best)
 }
 
 // Is the object at node i a `CityObjectGroup`?
@@ -378,78 +223,65 @@ fn is_group(text: &[u8], table: &[u32], i: usize) -> bool
     fields::found_word(text, table, kind, b"CityObjectGroup")
 }
 
-// Rule 17 of the children that were found, of the object of number `own` at node i, unless it is a group.
-fn answer_children(
+// Rule 17 of the children of the object at node i, of number `own`, unless it is a group.
+fn open_kin(
     text: &[u8],
     table: &[u32],
-    offsets: &[usize; 1024],
-    count: usize,
-    heads: &[u16; 4096],
-    nexts: &[u16; 1024],
-    memo: &[u16; 32784],
-    parents: &[u8],
-    own: usize,
     i: usize,
-    found: Found,
+    numbers: &[u16],
+    set: &[u8],
+    own: usize,
     best: u32,
 ) -> u32
-    requires { ⌜ (Numbered (now text) (now table) (now offsets) count (now heads) (now nexts)) × (Node (now text) (now table) i) × (Sought (now text) (now table) found) × (own < count) × (count * 128 ≤ length (now parents)) × (Kept (now text) (now table) (now offsets) count (now memo)) ⌝ }
-    ensures { λ r. ⌜ ChildrenGive (now (text .entry)) (now (table .entry)) (now (offsets .entry)) count own i found (now (parents .entry)) best r ⌝ }
+    requires { ⌜ (SizedUnder (now text) (now table) i (ascii "children") (now numbers)) × (Whole (now set)) × (own < 1024) ⌝ }
+    ensures { λ r. ⌜ ChildrenOpen (now (text .entry)) (now (table .entry)) i (now (numbers .entry)) (now (set .entry)) own best r ⌝ }
 {
-    let Found::At(j) = found else {
-        return best;
-    };
     if is_group(text, table, i) {
         return best;
     }
-    answer_list(
-        text,
-        table,
-        offsets,
-        count,
-        heads,
-        nexts,
-        memo,
-        parents,
-        own,
-        j,
-        best,
-    )
+    open_member(text, table, i, b"children", numbers, set, own, best)
 }
 
-// Rule 17 of the parents that were found, of the object of number `own`.
-fn answer_parents(
+// Rule 17 of the children of the object of number k.
+fn open_children(
     text: &[u8],
     table: &[u32],
-    offsets: &[usize; 1024],
-    count: usize,
-    heads: &[u16; 4096],
-    nexts: &[u16; 1024],
-    memo: &[u16; 32784],
-    children: &[u8],
-    own: usize,
-    found: Found,
+    offsets: &[usize],
+    rows: &[u16],
+    set: &[u8],
+    k: usize,
     best: u32,
 ) -> u32
-    requires { ⌜ (Numbered (now text) (now table) (now offsets) count (now heads) (now nexts)) × (Sought (now text) (now table) found) × (own < count) × (count * 128 ≤ length (now children)) × (Kept (now text) (now table) (now offsets) count (now memo)) ⌝ }
-    ensures { λ r. ⌜ OpensGive (now (text .entry)) (now (table .entry)) (now (offsets .entry)) count own false found (now (children .entry)) best r ⌝ }
+    requires { ⌜ (Links (now text) (now table) (now offsets) "children" (now rows) "parents" (now set)) × (k < length (now offsets)) ⌝ }
+    ensures { λ r. ⌜ ObjectGives (now (text .entry)) (now (table .entry)) (now (offsets .entry)) openChildren k best r ⌝ }
 {
-    let Found::At(j) = found else {
+    let numbers = marks::row(rows, k);
+    if marks::answered(set, k, numbers) {
         return best;
-    };
-    answer_list(
-        text,
-        table,
-        offsets,
-        count,
-        heads,
-        nexts,
-        memo,
-        children,
-        own,
-        j,
-        best,
-    )
+    }
+    let own = offsets[k];
+    open_kin(text, table, own + 3, numbers, set, k, best)
+}
+
+// Rule 17 of the children of all objects.
+fn open_all_children(
+    text: &[u8],
+    table: &[u32],
+    offsets: &[usize],
+    rows: &[u16],
+    set: &[u8],
+    best: u32,
+) -> u32
+    requires { ⌜ Links (now text) (now table) (now offsets) "children" (now rows) "parents" (now set) ⌝ }
+    ensures { λ r. ⌜ AllGive (now (text .entry)) (now (table .entry)) (now (offsets .entry)) openChildren best r ⌝ }
+{
+    let mut least = best;
+    let mut k = 0;
+    while k < offsets.len() {
+        least = open_children(text, table, offsets, rows, set, k, least);
+        k += 1;
+    }
+    least
 }
 
 // Is the type that was found one of the second level?
@@ -471,12 +303,11 @@ fn is_second_level(text: &[u8], table: &[u32], found: Found) -> bool
     words::object_code(text, from, to) >= 17
 }
 
-// Rule 16: a second-level object lists a parent.
-fn has_parent(text: &[u8], table: &[u32], i: usize, parents: Found, best: u32) -> u32
-    requires { ⌜ (Node (now text) (now table) i) × (Seeks (λ v. access.find "parents" v) (now text) (now table) i parents) ⌝ }
-    ensures { λ r. ⌜ Gives (λ v. least best (parentLink v)) (now (text .entry)) (now (table .entry)) i r ⌝ }
+// Rule 16: a second-level object lists a parent. `count` is how many the object at node i lists.
+fn has_parent(text: &[u8], table: &[u32], i: usize, count: usize, best: u32) -> u32
+    requires { ⌜ Node (now text) (now table) i ⌝ }
+    ensures { λ r. ⌜ ParentGives (now (text .entry)) (now (table .entry)) i count best r ⌝ }
 {
-    let count = fields::count_found(text, table, parents);
     if count != 0 {
         return best;
     }
@@ -491,182 +322,196 @@ fn has_parent(text: &[u8], table: &[u32], i: usize, parents: Found, best: u32) -
     )
 }
 
-// Rules 16 and 17 of the object of number k.
-fn answer_object(
+// Rule 17 of the parents of the object at node i, of number `own`.
+fn open_above(
     text: &[u8],
     table: &[u32],
-    offsets: &[usize; 1024],
-    count: usize,
-    heads: &[u16; 4096],
-    nexts: &[u16; 1024],
-    memo: &[u16; 32784],
-    downs: &[usize; 1024],
-    ups: &[usize; 1024],
-    children: &[u8],
-    parents: &[u8],
+    i: usize,
+    numbers: &[u16],
+    set: &[u8],
+    own: usize,
+    best: u32,
+) -> u32
+    requires { ⌜ (SizedUnder (now text) (now table) i (ascii "parents") (now numbers)) × (Whole (now set)) × (own < 1024) ⌝ }
+    ensures { λ r. ⌜ OpenUnder (now (text .entry)) (now (table .entry)) i (ascii "parents") (now (numbers .entry)) (now (set .entry)) own best r ⌝ }
+{
+    if marks::answered(set, own, numbers) {
+        return best;
+    }
+    open_member(text, table, i, b"parents", numbers, set, own, best)
+}
+
+// Rules 16 and 17 of the parents of the object of number k.
+fn open_parents(
+    text: &[u8],
+    table: &[u32],
+    offsets: &[usize],
+    rows: &[u16],
+    set: &[u8],
     k: usize,
     best: u32,
 ) -> u32
-    requires { ⌜ (Numbered (now text) (now table) (now offsets) count (now heads) (now nexts)) × (Filled (now text) (now table) (now offsets) count (now children) (now parents)) × (k < count) × (Kept (now text) (now table) (now offsets) count (now memo)) × (Notes (now text) (now table) (now offsets) (now downs) (now ups) count) × (Alone (now text) (now table) (now offsets) count) ⌝ }
-    ensures { λ r. ⌜ ObjectOpens (now (text .entry)) (now (table .entry)) (now (offsets .entry)) count k best r ⌝ }
+    requires { ⌜ (Links (now text) (now table) (now offsets) "parents" (now rows) "children" (now set)) × (k < length (now offsets)) ⌝ }
+    ensures { λ r. ⌜ ObjectGives (now (text .entry)) (now (table .entry)) (now (offsets .entry)) openParents k best r ⌝ }
 {
-    let name = offsets[k];
-    let i = name + 3;
-    let down = told(downs[k]);
-    let up = told(ups[k]);
-    let a = answer_children(
-        text,
-        table,
-        offsets,
-        count,
-        heads,
-        nexts,
-        memo,
-        parents,
-        k,
-        i,
-        down,
-        best,
-    );
-    let b = answer_parents(
-        text,
-        table,
-        offsets,
-        count,
-        heads,
-        nexts,
-        memo,
-        children,
-        k,
-        up,
-        a,
-    );
-    has_parent(text, table, i, up, b)
+    let numbers = marks::row(rows, k);
+    let own = offsets[k];
+    let i = own + 3;
+    let a = open_above(text, table, i, numbers, set, k, best);
+    has_parent(text, table, i, numbers.len(), a)
 }
 
-// Rules 16 and 17 of all objects.
-fn answer_all(
+// Rules 16 and 17 of the parents of all objects.
+fn open_all_parents(
     text: &[u8],
     table: &[u32],
-    offsets: &[usize; 1024],
-    count: usize,
-    heads: &[u16; 4096],
-    nexts: &[u16; 1024],
-    memo: &[u16; 32784],
-    downs: &[usize; 1024],
-    ups: &[usize; 1024],
-    children: &[u8],
-    parents: &[u8],
+    offsets: &[usize],
+    rows: &[u16],
+    set: &[u8],
     best: u32,
 ) -> u32
-    requires { ⌜ (Numbered (now text) (now table) (now offsets) count (now heads) (now nexts)) × (Filled (now text) (now table) (now offsets) count (now children) (now parents)) × (Kept (now text) (now table) (now offsets) count (now memo)) × (Notes (now text) (now table) (now offsets) (now downs) (now ups) count) × (Alone (now text) (now table) (now offsets) count) ⌝ }
-    ensures { λ r. ⌜ AllOpens (now (text .entry)) (now (table .entry)) (now (offsets .entry)) count best r ⌝ }
+    requires { ⌜ Links (now text) (now table) (now offsets) "parents" (now rows) "children" (now set) ⌝ }
+    ensures { λ r. ⌜ AllGive (now (text .entry)) (now (table .entry)) (now (offsets .entry)) openParents best r ⌝ }
 {
     let mut least = best;
     let mut k = 0;
-    while k < count {
-        least = answer_object(
-            text,
-            table,
-            offsets,
-            count,
-            heads,
-            nexts,
-            memo,
-            downs,
-            ups,
-            children,
-            parents,
-            k,
-            least,
-        );
+    while k < offsets.len() {
+        least = open_parents(text, table, offsets, rows, set, k, least);
         k += 1;
     }
     least
 }
 
-// Rules 15 to 17 of all objects, with two sets that are empty and have a row for each object.
+// Rules 16 and 17 of all objects, where the sets have who lists whom as a child, and as a parent.
+fn open_all(
+    text: &[u8],
+    table: &[u32],
+    offsets: &[usize],
+    children: &[u16],
+    parents: &[u16],
+    downs: &[u8],
+    ups: &[u8],
+    best: u32,
+) -> u32
+    requires { ⌜ Links (now text) (now table) (now offsets) "children" (now children) "parents" (now ups) ⌝ }
+    requires { ⌜ Links (now text) (now table) (now offsets) "parents" (now parents) "children" (now downs) ⌝ }
+    ensures { λ r. ⌜ OpenFaults (now (text .entry)) (now (table .entry)) (now (offsets .entry)) best r ⌝ }
+{
+    let a = open_all_children(text, table, offsets, children, ups, best);
+    open_all_parents(text, table, offsets, parents, downs, a)
+}
+
+// Rule 15 of all objects, with two sets that are empty and have a row for each object; then they have who lists whom as a child, and as a parent.
+fn mark_both(
+    text: &[u8],
+    table: &[u32],
+    offsets: &[usize],
+    children: &[u16],
+    parents: &[u16],
+    downs: &mut [u8],
+    ups: &mut [u8],
+    best: u32,
+) -> u32
+    requires { ⌜ Town (now text) (now table) (now offsets) (now children) (now parents) ⌝ }
+    requires { ⌜ (Empty (now downs) (length (now offsets))) × (Empty (now ups) (length (now offsets))) ⌝ }
+    ensures { λ r. ⌜ Marks (now (text .entry)) (now (table .entry)) (now (offsets .entry)) (now (children .entry)) (now (parents .entry))
+        (now (downs .entry)) (now (downs .exit)) (now (ups .entry)) (now (ups .exit)) best r ⌝ }
+{
+    let a = mark_all(text, table, offsets, b"children", children, downs, best);
+    mark_all(text, table, offsets, b"parents", parents, ups, a)
+}
+
+// Rules 15 to 17 of all objects, with two such sets.
 fn links_with(
     text: &[u8],
     table: &[u32],
-    offsets: &[usize; 1024],
-    count: usize,
-    children: &mut [u8],
-    parents: &mut [u8],
+    offsets: &[usize],
+    children: &[u16],
+    parents: &[u16],
+    downs: &mut [u8],
+    ups: &mut [u8],
     best: u32,
 ) -> u32
-    requires { ⌜ (Objects (now text) (now table) (now offsets) count) × (Empty (now children) count) × (Empty (now parents) count) × (Alone (now text) (now table) (now offsets) count) ⌝ }
-    ensures { λ r. ⌜ AllGive (now (text .entry)) (now (table .entry)) (now (offsets .entry)) count best r ⌝ }
+    requires { ⌜ Town (now text) (now table) (now offsets) (now children) (now parents) ⌝ }
+    requires { ⌜ (Empty (now downs) (length (now offsets))) × (Empty (now ups) (length (now offsets))) ⌝ }
+    ensures { λ r. ⌜ LinkFaults (now (text .entry)) (now (table .entry)) (now (offsets .entry)) best r ⌝ }
 {
-    let mut heads: [u16; 4096] = [0; 4096];
-    let mut nexts: [u16; 1024] = [0; 1024];
-    let mut memo: [u16; 32784] = [0; 32784];
-    let mut downs: [usize; 1024] = [0; 1024];
-    let mut ups: [usize; 1024] = [0; 1024];
-    ids::fill(text, table, offsets, count, &mut heads, &mut nexts);
-    let a = mark_all(
-        text,
-        table,
-        offsets,
-        count,
-        &heads,
-        &nexts,
-        &mut memo,
-        &mut downs,
-        &mut ups,
-        children,
-        parents,
-        best,
-    );
-    answer_all(
-        text,
-        table,
-        offsets,
-        count,
-        &heads,
-        &nexts,
-        &memo,
-        &downs,
-        &ups,
-        children,
-        parents,
-        a,
-    )
+    let a = mark_both(text, table, offsets, children, parents, downs, ups, best);
+    open_all(text, table, offsets, children, parents, downs, ups, a)
 }
 
 // Rules 15 to 17 of at most 64 objects. Small sets are cleared sooner.
-fn links_few(text: &[u8], table: &[u32], offsets: &[usize; 1024], count: usize, best: u32) -> u32
-    requires { ⌜ (Objects (now text) (now table) (now offsets) count) × (count ≤ 64) × (Alone (now text) (now table) (now offsets) count) ⌝ }
-    ensures { λ r. ⌜ AllGive (now (text .entry)) (now (table .entry)) (now (offsets .entry)) count best r ⌝ }
+fn links_few(
+    text: &[u8],
+    table: &[u32],
+    offsets: &[usize],
+    children: &[u16],
+    parents: &[u16],
+    best: u32,
+) -> u32
+    requires { ⌜ (Town (now text) (now table) (now offsets) (now children) (now parents)) × (length (now offsets) ≤ 64) ⌝ }
+    ensures { λ r. ⌜ LinkFaults (now (text .entry)) (now (table .entry)) (now (offsets .entry)) best r ⌝ }
 {
+    let size = offsets.len() * 128;
     let mut first: [u8; 8192] = [0; 8192];
     let mut second: [u8; 8192] = [0; 8192];
-    let children: &mut [u8] = &mut first;
-    let parents: &mut [u8] = &mut second;
-    links_with(text, table, offsets, count, children, parents, best)
+    let downs: &mut [u8] = &mut first;
+    let ups: &mut [u8] = &mut second;
+    links_with(
+        text,
+        table,
+        offsets,
+        children,
+        parents,
+        &mut downs[0..size],
+        &mut ups[0..size],
+        best,
+    )
 }
 
 // Rules 15 to 17 of at most 1,024 objects.
-fn links_many(text: &[u8], table: &[u32], offsets: &[usize; 1024], count: usize, best: u32) -> u32
-    requires { ⌜ (Objects (now text) (now table) (now offsets) count) × (Alone (now text) (now table) (now offsets) count) ⌝ }
-    ensures { λ r. ⌜ AllGive (now (text .entry)) (now (table .entry)) (now (offsets .entry)) count best r ⌝ }
+fn links_many(
+    text: &[u8],
+    table: &[u32],
+    offsets: &[usize],
+    children: &[u16],
+    parents: &[u16],
+    best: u32,
+) -> u32
+    requires { ⌜ Town (now text) (now table) (now offsets) (now children) (now parents) ⌝ }
+    ensures { λ r. ⌜ LinkFaults (now (text .entry)) (now (table .entry)) (now (offsets .entry)) best r ⌝ }
 {
+    let size = offsets.len() * 128;
     let mut first: [u8; 131072] = [0; 131072];
     let mut second: [u8; 131072] = [0; 131072];
-    let children: &mut [u8] = &mut first;
-    let parents: &mut [u8] = &mut second;
-    links_with(text, table, offsets, count, children, parents, best)
+    let downs: &mut [u8] = &mut first;
+    let ups: &mut [u8] = &mut second;
+    links_with(
+        text,
+        table,
+        offsets,
+        children,
+        parents,
+        &mut downs[0..size],
+        &mut ups[0..size],
+        best,
+    )
 }
 
-// Rules 15 to 17 of all objects of the index.
-pub fn links(text: &[u8], table: &[u32], index: Index, best: u32) -> u32
-    requires { ⌜ Ready (now text) (now table) index ⌝ }
+// Rules 15 to 17 of all objects.
+pub fn links(
+    text: &[u8],
+    table: &[u32],
+    offsets: &[usize],
+    children: &[u16],
+    parents: &[u16],
+    best: u32,
+) -> u32
+    requires { ⌜ Ready (now text) (now table) (now offsets) (now children) (now parents) ⌝ }
     ensures { λ r. ⌜ LinksGive (now (text .entry)) (now (table .entry)) best r ⌝ }
 {
-    let offsets = index.offsets;
-    let count = index.count;
-    if count <= 64 {
-        return links_few(text, table, &offsets, count, best);
+    if offsets.len() <= 64 {
+        return links_few(text, table, offsets, children, parents, best);
     }
-    links_many(text, table, &offsets, count, best)
+    links_many(text, table, offsets, children, parents, best)
 }

@@ -2,6 +2,7 @@
 pub mod Texts
 pub mod Nodes
 pub mod Members
-pub mod Links
+pub mod Payloads
+pub mod LinkRows
 pub mod Whole
 pub mod Rules

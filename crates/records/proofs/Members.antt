@@ -1,35 +1,37 @@
--- Members of a value at a node, and the records of a geometry.
+-- Members of a value at a node.
 use Prim.Native.Nat.{ℕ}
 use Prim.Native.String.{String}
-use mathlib.Core.Path.{_≡_, sym, ap, _∙_, subst}
+use mathlib.Core.Path.{_≡_, refl, sym, ap, _∙_, subst}
 use mathlib.Core.Bool.{true}
-use mathlib.Core.List.{List, [], _++_, append-nil}
+use mathlib.Core.List.{List}
 use mathlib.Core.Option.{Option, none, some}
+use Rattle.utf8.specs.Ascii.{ascii}
+use Rattle.utf8.specs.Bytes.{le}
 use Rattle.utf8.specs.Laws.{clash}
 use Rattle.strings.specs.Spans.{decodeAt}
 use Rattle.json.specs.Tree.{Json}
 use Rattle.json.specs.Table.{Sub}
-use Rattle.nodes.specs.Access.{find}
-use Rattle.nodes.specs.Says.{Finds, Seeks, GivesFound}
+use Rattle.nodes.specs.Access.{members, firstNamed, find}
+use Rattle.nodes.specs.Says.{Finds, Seeks, Gives, GivesFound}
 use Rattle.nodes.specs.declared.Found.{Found}
 use Rattle.nodes.specs.declared.Found.the-variants.{At, Nothing}
+use Rattle.shapes.specs.Laws.{seeks-find}
 use Rattle.fields.specs.Fields.{textIn, typeText}
-use Rattle.words.specs.Words.{geometryWords, codeOf, isLod, depth, valuesDepth}
-use Rattle.utf8.specs.Bytes.{le}
-use Rattle.model.specs.Model.{layThree, layDecimal, lodCode, layNest, layValues}
-use Rattle.model.specs.Read.{get, orNull, decimalOf, indexOf, valueOf, threeOf, nestOf, lodOf}
-use Rattle.writer.specs.Writes.{Writes, Closes}
-use Rattle.writer.specs.Laws.{then, as-bytes}
+use Rattle.words.specs.Words.{geometryWords, objectWords, codeOf, isLod, depth, valuesDepth}
+use Rattle.model.specs.Model.{layThree, layDecimal, lodCode, layNest, layValues, laySurface}
+use Rattle.model.specs.Read.{get, orNull, decimalOf, indexOf, valueOf, threeOf, nestOf, lodOf, surfaceNamed}
+use Rattle.writer.specs.Writes.{Writes}
 use Rattle.arrays.specs.Fits.{Pair, Index, Value, Triple, Leaves}
 use Rattle.arrays.specs.Says.{Holds, Wrote, WroteFound}
-use Rattle.arrays.specs.Unique.{unique}
-use Rattle.arrays.specs.Laws.{holds-at, holds-as, wrote-as, wrote-then}
+use Rattle.nodes.specs.Unique.{unique}
+use Rattle.arrays.specs.Laws.{holds-at, holds-as, wrote-none, wrote-some}
 use Rattle.records.specs.Fits.{Has, Perhaps, geometryCode, SemanticsFit, ShapeFits, GeometryFits, TransformFits}
-use Rattle.records.specs.Bytes.{eachIn, surfaceBytes, valuesBytes, semanticsBytes, semanticsIn, shapeBytes, geometryBytes, transformBytes}
-use Rattle.records.specs.Parts.{semantics-parts, geometry-parts}
+use Rattle.records.specs.Bytes.{surfaceBytes, semanticsBytes, semanticsIn}
 use Rattle.records.specs.Says.{HoldsFound, Quotes}
+use Rattle.records.specs.Members.{There, Named, Leads, QuotesIn, LodFits, each}
+use Rattle.records.specs.Members.{pairsMember, lodMember, boundaryMember, surfacesMember, semanticsMember, surfacePayload, valuesPayload}
 use Rattle.records.specs.declared.Quote.{Quote}
-use Rattle.records.proofs.Nodes.{closed}
+use Rattle.records.proofs.Nodes.{each-none, each-some}
 
 -- ---- members
 
@@ -92,78 +94,146 @@ module _ {x t : List ℕ} {i : ℕ} (name : String) {found : Found} (k : Seeks (
   perhaps-found P h =
       let d = h .node in
       let f = k .finds (d .value) (d .stands) in
-      record { sought = record { answer = find name (d .value); finds = f; short = d .short }; holds = λ v g. h .holds (d .value) (d .stands) .holds v (same-found x t (find name (d .value)) v found g f) }
+      record {
+        sought = record { answer = find name (d .value); finds = f; short = d .short };
+        holds = λ v g. h .holds (d .value) (d .stands) .holds v (same-found x t (find name (d .value)) v found g f);
+      }
 
--- ---- records
+-- ---- a member by the bytes of its name
 
--- values
-pub values-depth : (code : ℕ) {d : ℕ} {x t : List ℕ} {i : ℕ} → Holds (Leaves Value (valuesDepth code)) x t i → d ≡ valuesDepth code → Holds (Leaves Value d) x t i
-values-depth code {x = x} {t} {i} h e = subst (λ n. Holds (Leaves Value n) x t i) (sym e) h
+module _ {name x t : List ℕ} {i : ℕ} where
+  -- it is found if it is there
+  module _ {found : Found} (f : Seeks (λ v. firstNamed name (members v)) x t i found) where
+    pub there-at : {k : ℕ} → found ≡ At k → Leads name x t i k
+    unfolding Finds
+    there-at e = record { is = λ v s. subst (Finds x t (firstNamed name (members v))) e (f .finds v s) }
 
-pub values-wrote : (code n : ℕ) {x t : List ℕ} {i : ℕ} {d₀ d d′ : List ℕ} {at body end : ℕ} → n ≡ valuesDepth code → Wrote (λ v. layValues n (nestOf valueOf n v)) x t i d₀ d body end → Closes 8 at body end d d′ → Wrote (valuesBytes code) x t i d₀ d′ at end
-unfolding valuesBytes
-values-wrote code n e w c = record { is = λ v s. c .closes _ _ (rw e at (w .is v s)) }
+    pub there-none : {k : ℕ} → Holds (There name) x t i → found ≡ Nothing → Leads name x t i k
+    unfolding Finds
+    there-none h e =
+        let d = h .node in
+        let n : firstNamed name (members (d .value)) ≡ none = subst (Finds x t (firstNamed name (members (d .value)))) e (f .finds (d .value) (d .stands)) in
+        let z : _≡_ {A = Option Json} none (some _) = sym n ∙ h .holds (d .value) (d .stands) .found in
+        absurd (clash cc)
 
--- semantics
-pub semantics-values : {code : ℕ} {x t : List ℕ} {i : ℕ} → Holds (SemanticsFit code) x t i → Holds (Has (Leaves Value (valuesDepth code)) "values") x t i
-semantics-values h = holds-as (λ v f. f .values) h
+  -- what is known of it, and what was written for it
+  module _ {k : ℕ} (l : Leads name x t i k) where
+    pub led : {P : Json → Type 0} → Holds (Named P name) x t i → Holds P x t k
+    led {P} h =
+        let d = h .node in
+        let (w, q, s) = l .is (d .value) (d .stands) in
+        let p = h .holds (d .value) (d .stands) in
+        holds-at w s (d .short) (subst P (the (sym (p .there .found) ∙ q)) (p .holds))
 
-pub semantics-wrote : (code : ℕ) {x t : List ℕ} {i j : ℕ} {listed found : Found} {d₀ d₁ d₂ : List ℕ} {to q r : ℕ}
-    → Seeks (λ v. find "surfaces" v) x t i listed → WroteFound (eachIn surfaceBytes) x t listed d₀ d₁ to q
-    → Seeks (λ v. find "values" v) x t i found → found ≡ At j → Wrote (valuesBytes code) x t j d₁ d₂ q r → Wrote (semanticsBytes code) x t i d₀ d₂ to r
-semantics-wrote code k w l e u = wrote-as (λ v s. sym (semantics-parts code v)) (wrote-then (wrote-member "surfaces" k w) (wrote-at "values" l e u))
+    -- at the depth that was told
+    pub leaves-led : (P : Json → Type 0) (m : ℕ) {n : ℕ} → Holds (Named (Leaves P m) name) x t i → n ≡ m → Holds (Leaves P n) x t k
+    leaves-led P m h e = rw e (led h)
 
--- the type, the lod and the boundary of a geometry
-pub shape-boundary : {code : ℕ} {x t : List ℕ} {i : ℕ} → Holds (ShapeFits code) x t i → Holds (Has (Leaves Index (depth code)) "boundaries") x t i
-shape-boundary h = holds-as (λ v f. f .boundary) h
+    pub wrote-led : {f : Json → List ℕ} {d₀ d : List ℕ} {to r : ℕ} → Wrote f x t k d₀ d to r → Wrote (λ v. f (orNull (firstNamed name (members v)))) x t i d₀ d to r
+    unfolding orNull
+    wrote-led w = record { is = λ v s. let (u, q, z) = l .is v s in rw q (w .is u z) }
 
-pub boundary-depth : (code : ℕ) {d : ℕ} {x t : List ℕ} {i : ℕ} → Holds (Leaves Index (depth code)) x t i → d ≡ depth code → Holds (Leaves Index d) x t i
-boundary-depth code {x = x} {t} {i} h e = subst (λ n. Holds (Leaves Index n) x t i) (sym e) h
+    pub pairs-led : {d₀ d : List ℕ} {to r : ℕ} → Wrote (λ v. layThree layDecimal (threeOf decimalOf v)) x t k d₀ d to r → Wrote (pairsMember name) x t i d₀ d to r
+    unfolding pairsMember
+    pairs-led w = wrote-led w
 
-pub shape-lod : {code : ℕ} {x t : List ℕ} {i : ℕ} {found : Found} {q : Quote} → Holds (ShapeFits code) x t i → Seeks (λ v. find "lod" v) x t i found → Quotes x t found q → isLod (decodeAt x (q .from) (q .to)) ≡ true
-shape-lod h k q = let d = h .node in rw (q .text _ (k .finds (d .value) (d .stands))) (h .holds (d .value) (d .stands) .lod)
+  pub named-there : {P : Json → Type 0} → Holds (Named P name) x t i → Holds (There name) x t i
+  named-there h = holds-as (λ v n. n .there) h
 
-pub shape-wrote : (code n l : ℕ) {x t : List ℕ} {i j : ℕ} {found other : Found} {p : Quote} {d₀ d₁ d₂ d₃ d₄ : List ℕ} {at body a b end : ℕ}
-    → Seeks (λ v. find "boundaries" v) x t i found → found ≡ At j → Seeks (λ v. find "lod" v) x t i other → Quotes x t other p → n ≡ depth code → l ≡ lodCode (lodOf (decodeAt x (p .from) (p .to)))
-    → Writes (le 2 code) d₀ d₁ body a → Writes (le 2 l) d₁ d₂ a b → Wrote (λ v. layNest n (nestOf indexOf n v)) x t j d₂ d₃ b end → Closes 6 at body end d₃ d₄ → Wrote (shapeBytes code) x t i d₀ d₄ at end
-unfolding shapeBytes
-shape-wrote code n l {x} {t} {i} {p = p} {d₀} {d₃ = d₃} {body = body} {end = end} k e o q m g u w z c = record { is = λ v s. c .closes _ _ (payload v s) }
-  where
-    payload : (v : Json) → Sub x t i v → Writes (le 2 code ++ le 2 (lodCode (lodOf (textIn (find "lod" v)))) ++ layNest (depth code) (nestOf indexOf (depth code) (get "boundaries" v))) d₀ d₃ body end
-    payload v s = rw (← q .text (find "lod" v) (o .finds v s), ← g, ← m) (then (then u w) (wrote-at "boundaries" k e z .is v s))
+  -- a string
+  pub quotes-in : {found : Found} {q : Quote} → Seeks (λ v. firstNamed name (members v)) x t i found → Quotes x t found q → QuotesIn name x t i q
+  quotes-in f q = record { span = q .span; text = λ v s. q .text (firstNamed name (members v)) (f .finds v s) }
 
--- a geometry
-module _ (code : ℕ) {x t : List ℕ} {i : ℕ} {kind : Found} (k : Seeks (λ v. find "type" v) x t i kind) (g : GivesFound (λ o. codeOf geometryWords (textIn o)) x t kind code) where
-  coded : (v : Json) → Sub x t i v → code ≡ geometryCode v
-  unfolding geometryCode typeText
-  coded v s = told-member "type" k g v s
+pub has-named : {P : Json → Type 0} (name : String) {v : Json} → Has P name v → Named P (ascii name) v
+unfolding find
+has-named name h = record { there = record { value = h .value; found = h .found }; holds = h .holds }
 
-  pub geometry-shape : Holds GeometryFits x t i → Holds (ShapeFits code) x t i
-  geometry-shape h = record { node = h .node; holds = λ v s. subst (λ c. ShapeFits c v) (sym (coded v s)) (h .holds v s .shape) }
+-- ---- the members of a transform, of semantics and of a geometry
 
-  pub geometry-semantics : Holds GeometryFits x t i → Holds (Perhaps (SemanticsFit code) "semantics") x t i
-  geometry-semantics h = record { node = h .node; holds = λ v s. subst (λ c. Perhaps (SemanticsFit c) "semantics" v) (sym (coded v s)) (h .holds v s .semantics) }
+module _ {x t : List ℕ} {i : ℕ} where
+  pub transform-scale : Holds TransformFits x t i → Holds (Named (Triple Pair) (ascii "scale")) x t i
+  transform-scale h = holds-as (λ v f. has-named "scale" (f .scale)) h
 
-  module _ {found : Found} (o : Seeks (λ v. find "semantics" v) x t i found) {d₀ d₁ : List ℕ} {to q : ℕ} (w : Wrote (shapeBytes code) x t i d₀ d₁ to q) where
-    pub geometry-plain : found ≡ Nothing → Wrote geometryBytes x t i d₀ d₁ to q
-    unfolding semanticsIn
-    geometry-plain e = record { is = λ v s. rw (geometry-parts v, member-none "semantics" o e v s, ← coded v s) (as-bytes (sym (append-nil (shapeBytes code v))) (w .is v s)) }
+  pub transform-translate : Holds TransformFits x t i → Holds (Named (Triple Pair) (ascii "translate")) x t i
+  transform-translate h = holds-as (λ v f. has-named "translate" (f .translate)) h
 
-    pub geometry-meant : {j : ℕ} {d₂ : List ℕ} {r : ℕ} → found ≡ At j → Wrote (semanticsBytes code) x t j d₁ d₂ q r → Wrote geometryBytes x t i d₀ d₂ to r
-    unfolding semanticsIn
-    geometry-meant e u = record { is = λ v s. let (y, z, b) = member-at "semantics" o e v s in rw (geometry-parts v, z, ← coded v s) (then (w .is v s) (u .is y b)) }
+  -- the surfaces, and the values
+  module _ {found : Found} (f : Seeks (λ v. firstNamed (ascii "surfaces") (members v)) x t i found) where
+    pub surfaces-none : {d : List ℕ} {to : ℕ} → found ≡ Nothing → Wrote surfacesMember x t i d d to to
+    unfolding surfacesMember
+    surfaces-none e = wrote-member "surfaces" (seeks-find "surfaces" refl f) (each-none surfaceBytes e)
 
--- ---- the transform
+    pub surfaces-some : {k : ℕ} {d₀ d : List ℕ} {to r : ℕ} → found ≡ At k → Wrote (each surfaceBytes) x t k d₀ d to r → Wrote surfacesMember x t i d₀ d to r
+    unfolding surfacesMember
+    surfaces-some e w = wrote-member "surfaces" (seeks-find "surfaces" refl f) (each-some surfaceBytes e w)
 
-pub transform-scale : {x t : List ℕ} {i : ℕ} → Holds TransformFits x t i → Holds (Has (Triple Pair) "scale") x t i
-transform-scale h = holds-as (λ v f. f .scale) h
+  pub values-named : (code : ℕ) → Holds (SemanticsFit code) x t i → Holds (Named (Leaves Value (valuesDepth code)) (ascii "values")) x t i
+  values-named code h = holds-as (λ v f. has-named "values" (f .values)) h
 
-pub transform-translate : {x t : List ℕ} {i : ℕ} → Holds TransformFits x t i → Holds (Has (Triple Pair) "translate") x t i
-transform-translate h = holds-as (λ v f. f .translate) h
+  pub values-led : (code : ℕ) {k n : ℕ} {d₀ d : List ℕ} {to r : ℕ} → Leads (ascii "values") x t i k → n ≡ valuesDepth code → Wrote (λ v. layValues n (nestOf valueOf n v)) x t k d₀ d to r
+      → Wrote (valuesPayload code) x t i d₀ d to r
+  unfolding valuesPayload get find
+  values-led code l e w = wrote-led l (rw e at w)
 
-pub transform-wrote : {x t : List ℕ} {i j k : ℕ} {scale translate : Found} {d₀ d₁ d₂ d₃ : List ℕ} {at body middle end : ℕ}
-    → Seeks (λ v. find "scale" v) x t i scale → scale ≡ At j → Seeks (λ v. find "translate" v) x t i translate → translate ≡ At k
-    → Wrote (λ v. layThree layDecimal (threeOf decimalOf v)) x t j d₀ d₁ body middle → Wrote (λ v. layThree layDecimal (threeOf decimalOf v)) x t k d₁ d₂ middle end
-    → Closes 1 at body end d₂ d₃ → Wrote transformBytes x t i d₀ d₃ at end
-unfolding transformBytes
-transform-wrote a e b g u w c = closed (wrote-then (wrote-at "scale" a e u) (wrote-at "translate" b g w)) c
+  -- the lod, and the boundary
+  pub shape-lod : {code : ℕ} → Holds (ShapeFits code) x t i → Holds LodFits x t i
+  unfolding LodFits
+  shape-lod h = holds-as (λ v f. f .lod) h
+
+  pub lod-quoted : {q : Quote} → Holds LodFits x t i → QuotesIn (ascii "lod") x t i q → isLod (decodeAt x (q .from) (q .to)) ≡ true
+  unfolding LodFits find
+  lod-quoted h q = let d = h .node in rw (q .text (d .value) (d .stands)) (h .holds (d .value) (d .stands))
+
+  pub lod-wrote : {q : Quote} {n : ℕ} {d₀ d : List ℕ} {to r : ℕ} → QuotesIn (ascii "lod") x t i q → n ≡ lodCode (lodOf (decodeAt x (q .from) (q .to))) → Writes (le 2 n) d₀ d to r
+      → Wrote lodMember x t i d₀ d to r
+  unfolding lodMember find
+  lod-wrote q e w = record { is = λ v s. rw (← q .text v s, ← e) w }
+
+  pub boundary-named : (code : ℕ) → Holds (ShapeFits code) x t i → Holds (Named (Leaves Index (depth code)) (ascii "boundaries")) x t i
+  boundary-named code h = holds-as (λ v f. has-named "boundaries" (f .boundary)) h
+
+  pub boundary-led : (code : ℕ) {k n : ℕ} {d₀ d : List ℕ} {to r : ℕ} → Leads (ascii "boundaries") x t i k → n ≡ depth code → Wrote (λ v. layNest n (nestOf indexOf n v)) x t k d₀ d to r
+      → Wrote (boundaryMember code) x t i d₀ d to r
+  unfolding boundaryMember get find
+  boundary-led code l e w = wrote-led l (rw e at w)
+
+  -- the type
+  typed : (words : List String) {code : ℕ} {found : Found} → Seeks (λ v. firstNamed (ascii "type") (members v)) x t i found → GivesFound (λ o. codeOf words (textIn o)) x t found code
+      → Gives (λ v. codeOf words (typeText v)) x t i code
+  unfolding typeText
+  typed words f g = record { is = told-member "type" (seeks-find "type" refl f) g }
+
+  pub geometry-typed : {code : ℕ} {found : Found} → Seeks (λ v. firstNamed (ascii "type") (members v)) x t i found → GivesFound (λ o. codeOf geometryWords (textIn o)) x t found code
+      → Gives geometryCode x t i code
+  unfolding geometryCode
+  geometry-typed f g = typed geometryWords f g
+
+  pub object-typed : {code : ℕ} {found : Found} → Seeks (λ v. firstNamed (ascii "type") (members v)) x t i found → GivesFound (λ o. codeOf objectWords (textIn o)) x t found code
+      → Gives (λ v. codeOf objectWords (typeText v)) x t i code
+  object-typed f g = typed objectWords f g
+
+  pub surface-typed : {q : Quote} {d₀ d : List ℕ} {to r : ℕ} → QuotesIn (ascii "type") x t i q → Writes (laySurface (surfaceNamed (decodeAt x (q .from) (q .to)))) d₀ d to r
+      → Wrote surfacePayload x t i d₀ d to r
+  unfolding surfacePayload find
+  surface-typed q w = record { is = λ v s. rw (← q .text v s) w }
+
+  -- the semantics, which may be absent
+  module _ (code : ℕ) {found : Found} (f : Seeks (λ v. firstNamed (ascii "semantics") (members v)) x t i found) where
+    pub semantics-none : {d : List ℕ} {to : ℕ} → found ≡ Nothing → Wrote (semanticsMember code) x t i d d to to
+    unfolding semanticsMember semanticsIn
+    semantics-none e = wrote-member "semantics" (seeks-find "semantics" refl f) (wrote-none {f = semanticsIn code} e refl)
+
+    pub semantics-some : {k : ℕ} {d₀ d : List ℕ} {to r : ℕ} → found ≡ At k → Wrote (semanticsBytes code) x t k d₀ d to r → Wrote (semanticsMember code) x t i d₀ d to r
+    unfolding semanticsMember semanticsIn
+    semantics-some e w = wrote-member "semantics" (seeks-find "semantics" refl f) (wrote-some {f = semanticsIn code} e w)
+
+    pub semantics-there : {k : ℕ} → Holds (Perhaps (SemanticsFit code) "semantics") x t i → found ≡ At k → Holds (SemanticsFit code) x t k
+    semantics-there h e = perhaps-at "semantics" (seeks-find "semantics" refl f) h e
+
+  -- what is asked of a geometry, by the code of its type
+  module _ {code : ℕ} (h : Holds GeometryFits x t i) (g : Gives geometryCode x t i code) where
+    pub geometry-shape : Holds (ShapeFits code) x t i
+    geometry-shape = record { node = h .node; holds = λ v s. subst (λ c. ShapeFits c v) (sym (g .is v s)) (h .holds v s .shape) }
+
+    pub geometry-semantics : Holds (Perhaps (SemanticsFit code) "semantics") x t i
+    geometry-semantics = record { node = h .node; holds = λ v s. subst (λ c. Perhaps (SemanticsFit c) "semantics" v) (sym (g .is v s)) (h .holds v s .semantics) }

@@ -1,102 +1,115 @@
 -- City objects and the whole sheet.
-use Prim.Native.Nat.{ℕ, zero, suc, _+_, _-_, _≤_, _<_}
+use Prim.Native.Nat.{ℕ, zero, suc, _+_, _<_, _≤_}
 use native.Mathlib.Omega.{arith}
 use native.Mathlib.Numerals.{add-one}
 use mathlib.Core.Path.{_≡_, refl, sym, ap, _∙_}
 use mathlib.Core.List.{List, [], _∷_, _++_, append-assoc, append-nil}
 use lib.ListN.{length, getD, drop, drop-of-length-le}
 use lib.Seq.{drop-cons}
-use Rattle.json.specs.Tree.{Json}
-use Rattle.json.specs.Table.{Sub}
-use Rattle.nodes.specs.Access.{Member, find}
+use Rattle.utf8.specs.Ascii.{ascii}
+use Rattle.nodes.specs.Access.{Member, members, firstNamed, find}
 use Rattle.nodes.specs.Says.{Seeks}
 use Rattle.nodes.specs.declared.Found.{Found}
-use Rattle.nodes.specs.declared.Found.the-variants.{At}
+use Rattle.shapes.specs.Laws.{seeks-find}
 use Rattle.fields.specs.Fields.{objectsOf}
-use Rattle.fields.specs.declared.Index.{Index}
 use Rattle.ids.specs.Says.{Offsets, MemberNode, namesOf}
 use Rattle.ids.proofs.Rules.{nobody}
+use Rattle.marks.specs.Marks.{rowOf}
+use Rattle.marks.specs.Says.{RowAt}
 use Rattle.model.specs.Code.{concatMap, All}
+use Rattle.model.specs.Model.{rec, layRec}
+use Rattle.model.specs.Read.{get}
 use Rattle.writer.specs.Writes.{Writes, Closes}
 use Rattle.writer.specs.Laws.{nothing, then, as-bytes}
 use Rattle.arrays.specs.Fits.{Elements, Triple, Coordinate}
 use Rattle.arrays.specs.Says.{Holds, Wrote, WroteFound}
 use Rattle.arrays.specs.Laws.{holds-at, holds-as}
-use Rattle.records.specs.Fits.{Has, Perhaps, Text, GeometryFits, ObjectFits, TransformFits}
-use Rattle.records.specs.Bytes.{eachIn, geometryBytes, objectBytes, transformBytes, verticesBytes}
+use Rattle.records.specs.Fits.{GeometryFits, ObjectFits, TransformFits, RootFits}
+use Rattle.records.specs.Bytes.{eachIn, geometryBytes, identityBytes, objectBytes, transformBytes, verticesBytes}
 use Rattle.records.specs.Parts.{object-parts, sheet-parts}
-use Rattle.records.specs.Says.{LinksWrote, IdentityWrote, ObjectWrote, Placed, ObjectsWrote, Ready, SheetWrote}
-use Rattle.records.proofs.Members.{wrote-member, wrote-at}
+use Rattle.records.specs.Members.{Named, Leads, geometriesMember, transformMember, verticesMember, frameBytes}
+use Rattle.records.specs.Says.{HoldsFound, linkBytes, LinksWrote, IdentityWrote, ObjectWrote, Placed, ObjectsWrote, Ready, SheetWrote}
+use Rattle.records.proofs.Members.{perhaps-found, wrote-member, has-named, wrote-led}
+use Rattle.records.proofs.LinkRows.{row-bytes}
 
 -- ---- one object
 
-module _ {x t : List ℕ} {i : ℕ} (h : Holds ObjectFits x t i) where
-  pub object-children : Holds (Perhaps (Elements Text) "children") x t i
-  object-children = holds-as (λ v f. f .children) h
+module _ {x t : List ℕ} {i : ℕ} {found : Found} (f : Seeks (λ v. firstNamed (ascii "geometry") (members v)) x t i found) where
+  pub geometries-found : Holds ObjectFits x t i → HoldsFound (Elements GeometryFits) x t found
+  geometries-found h = perhaps-found "geometry" (seeks-find "geometry" refl f) (Elements GeometryFits) (holds-as (λ v f. f .geometries) h)
 
-  pub object-parents : Holds (Perhaps (Elements Text) "parents") x t i
-  object-parents = holds-as (λ v f. f .parents) h
+  pub geometries-wrote : {d₀ d : List ℕ} {to r : ℕ} → WroteFound (eachIn geometryBytes) x t found d₀ d to r → Wrote geometriesMember x t i d₀ d to r
+  unfolding geometriesMember
+  geometries-wrote w = wrote-member "geometry" (seeks-find "geometry" refl f) w
 
-  pub object-geometries : Holds (Perhaps (Elements GeometryFits) "geometry") x t i
-  object-geometries = holds-as (λ v f. f .geometries) h
-
-pub object-wrote : {x t offsets : List ℕ} {count own : ℕ} {children parents geometry : Found} {d₀ d₁ d₂ d₃ d₄ : List ℕ} {at a b c r : ℕ}
-    → Seeks (λ v. find "children" v) x t (own + 3) children → Seeks (λ v. find "parents" v) x t (own + 3) parents → Seeks (λ v. find "geometry" v) x t (own + 3) geometry
-    → IdentityWrote x t own d₀ d₁ at a → LinksWrote x t offsets count children 4 d₁ d₂ a b → LinksWrote x t offsets count parents 5 d₂ d₃ b c
-    → WroteFound (eachIn geometryBytes) x t geometry d₃ d₄ c r → ObjectWrote x t offsets count own d₀ d₄ at r
-object-wrote k l g u w y z = record {
-  is = λ ms o m d.
+pub object-wrote : {x t : List ℕ} {own : ℕ} {children parents d₀ d₁ d₂ d₃ : List ℕ} {at a b r : ℕ}
+    → Holds ObjectFits x t (own + 3) → IdentityWrote x t own d₀ d₁ at a → LinksWrote children parents d₁ d₂ a b → Wrote geometriesMember x t (own + 3) d₂ d₃ b r
+    → ObjectWrote x t own children parents d₀ d₃ at r
+unfolding geometriesMember
+object-wrote h u w z = record {
+  is = λ names m d e f.
+      let v = m .1 in
       let s = d .value in
-      as-bytes (sym (object-parts (namesOf ms) m))
-      (then (then (then (u .is m d) (wrote-member "children" k (w .is ms o) .is (m .1) s)) (wrote-member "parents" l (y .is ms o) .is (m .1) s)) (wrote-member "geometry" g z .is (m .1) s));
+      let fit = h .holds v s in
+      let c = row-bytes 4 names "children" v (fit .children) in
+      let p = row-bytes 5 names "parents" v (fit .parents) in
+      let links = as-bytes (λ i. linkBytes 4 (e i) ++ linkBytes 5 (f i)) (w .is) in
+      as-bytes (sym (object-parts names m ∙ ap (λ (l : List ℕ). l ++ geometriesMember v) (append-assoc (identityBytes m) _ _)))
+      (then (then (u .is m d) (as-bytes (λ i. c i ++ p i) links)) (z .is v s));
 }
 
 -- ---- all objects
 
 -- Of all objects, the first k were to be written from `to` on, and the cursor is `at`.
-pub record Objecting (x t offsets : List ℕ) (count k : ℕ) (d₀ d : List ℕ) (to at : ℕ) : Type 0 where
-  pub placed : Placed x t offsets count
-  pub within : k ≤ count
+pub record Objecting (x t offsets children parents : List ℕ) (k : ℕ) (d₀ d : List ℕ) (to at : ℕ) : Type 0 where
+  pub placed : Placed x t offsets children parents
   pub room : length d ≡ length d₀
-  pub done : (ms : List Member) → Offsets x t ms offsets count → List ℕ
-  pub all-is : (ms : List Member) (o : Offsets x t ms offsets count) → concatMap (objectBytes (namesOf ms)) ms ≡ done ms o ++ concatMap (objectBytes (namesOf ms)) (drop k ms)
-  pub wrote : (ms : List Member) (o : Offsets x t ms offsets count) → Writes (done ms o) d₀ d to at
+  done : (ms : List Member) → Offsets x t ms offsets → List ℕ
+  all-is : (ms : List Member) (o : Offsets x t ms offsets) → concatMap (objectBytes (namesOf ms)) ms ≡ done ms o ++ concatMap (objectBytes (namesOf ms)) (drop k ms)
+  wrote : (ms : List Member) (o : Offsets x t ms offsets) → Writes (done ms o) d₀ d to at
 
-module _ {x t offsets : List ℕ} {count : ℕ} where
-  pub objecting-start : {d : List ℕ} {to : ℕ} → Placed x t offsets count → Objecting x t offsets count 0 d d to to
-  objecting-start {d} {to} p = record { placed = p; within = omega arith; room = refl; done = λ ms o. []; all-is = λ ms o. refl; wrote = λ ms o. nothing d to }
+module _ {x t offsets children parents : List ℕ} where
+  pub objecting-start : {d : List ℕ} {to : ℕ} → Placed x t offsets children parents → Objecting x t offsets children parents 0 d d to to
+  objecting-start {d} {to} p = record { placed = p; room = refl; done = λ ms o. []; all-is = λ ms o. refl; wrote = λ ms o. nothing d to }
 
-  module _ {k : ℕ} {d₀ d : List ℕ} {to at : ℕ} (p : Objecting x t offsets count k d₀ d to at) where
-    pub objecting-few : k < count → k < 1024
-    objecting-few l = omega (arith, p .placed .objects .stand .few)
+  module _ {k : ℕ} {d₀ d : List ℕ} {to at : ℕ} (p : Objecting x t offsets children parents k d₀ d to at) (l : k < length offsets) where
+    pub objecting-member : {own : ℕ} → own ≡ getD offsets k 0 → MemberNode x t own
+    objecting-member e = let o = p .placed .objects in record { it = getD (o .members) k nobody; stands = rw e (o .stand .each k nobody l) }
 
-    pub objecting-member : {own : ℕ} → k < count → own ≡ getD offsets k 0 → MemberNode x t own
-    objecting-member l e = let o = p .placed .objects in record { it = getD (o .members) k nobody; stands = rw e (o .stand .each k nobody l) }
+    pub objecting-fits : {own : ℕ} → own ≡ getD offsets k 0 → Holds ObjectFits x t (own + 3)
+    objecting-fits e = rw e (p .placed .fits k l)
 
-    pub objecting-fits : {own : ℕ} → k < count → own ≡ getD offsets k 0 → Holds ObjectFits x t (own + 3)
-    objecting-fits l e = rw e (p .placed .fits k l)
+    pub objecting-below : RowAt children k
+    objecting-below = p .placed .below .table .row k l
 
-    pub objecting-turn : {own : ℕ} {d′ : List ℕ} {r : ℕ} → k < count → own ≡ getD offsets k 0 → ObjectWrote x t offsets count own d d′ at r → Objecting x t offsets count (k + 1) d₀ d′ to r
+    pub objecting-above : RowAt parents k
+    objecting-above = p .placed .above .table .row k l
+
+    pub objecting-turn : {own : ℕ} {d′ : List ℕ} {r : ℕ} → own ≡ getD offsets k 0 → ObjectWrote x t own (rowOf children k) (rowOf parents k) d d′ at r
+        → Objecting x t offsets children parents (k + 1) d₀ d′ to r
     unfolding concatMap
-    objecting-turn {own} {d′} {r} l e w = record {
+    objecting-turn {own} {d′} {r} e w = record {
       placed = p .placed;
-      within = omega arith;
-      room = (let o = p .placed .objects in w .is (o .members) (o .stand) _ (objecting-member l e .stands) .room) ∙ p .room;
+      room = (let o = p .placed .objects in writes (o .members) (o .stand) .room) ∙ p .room;
       done = λ ms o. p .done ms o ++ objectBytes (namesOf ms) (getD ms k nobody);
       all-is = λ ms o.
           let f = objectBytes (namesOf ms) in
           let c : drop k ms ≡ getD ms k nobody ∷ drop (k + 1) ms = rw (drop-cons ms k nobody (omega (arith, o .all)), add-one k) in
           p .all-is ms o ∙ ap (λ l. p .done ms o ++ concatMap f l) c ∙ sym (append-assoc (p .done ms o) (f (getD ms k nobody)) (concatMap f (drop (k + 1) ms)));
-      wrote = λ ms o. then (p .wrote ms o) (w .is ms o (getD ms k nobody) (rw e (o .each k nobody l)));
+      wrote = λ ms o. then (p .wrote ms o) (writes ms o);
     }
+      where
+        writes : (ms : List Member) → Offsets x t ms offsets → Writes (objectBytes (namesOf ms) (getD ms k nobody)) d d′ at r
+        writes ms o =
+            w .is (namesOf ms) (getD ms k nobody) (rw e (o .each k nobody l)) (p .placed .below .is ms o k nobody l) (p .placed .above .is ms o k nobody l)
 
-    pub objecting-done : count ≤ k → ObjectsWrote x t offsets count d₀ d to at
-    unfolding concatMap
-    objecting-done h = record {
-      is = λ ms o.
-          let c : drop k ms ≡ [] = drop-of-length-le ms {i = k} (omega (arith, o .all)) in
-          as-bytes (sym (p .all-is ms o ∙ ap (λ l. p .done ms o ++ concatMap (objectBytes (namesOf ms)) l) c ∙ append-nil (p .done ms o))) (p .wrote ms o);
-    }
+  pub objecting-done : {k : ℕ} {d₀ d : List ℕ} {to at : ℕ} → Objecting x t offsets children parents k d₀ d to at → length offsets ≤ k → ObjectsWrote x t offsets d₀ d to at
+  unfolding concatMap
+  objecting-done {k} p h = record {
+    is = λ ms o.
+        let c : drop k ms ≡ [] = drop-of-length-le ms {i = k} (omega (arith, o .all)) in
+        as-bytes (sym (p .all-is ms o ∙ ap (λ l. p .done ms o ++ concatMap (objectBytes (namesOf ms)) l) c ∙ append-nil (p .done ms o))) (p .wrote ms o);
+  }
 
 -- ---- the whole sheet
 
@@ -106,35 +119,47 @@ all-at P [] k d a h = absurd (omega arith)
 all-at P (b ∷ l) zero d a h = a .0
 all-at P (b ∷ l) (suc k) d a h = all-at P l k d (a .1) (omega arith)
 
-module _ {x t : List ℕ} {index : Index} (r : Ready x t index) where
-  pub root-transform : Holds (Has TransformFits "transform") x t 0
-  root-transform = holds-as (λ v f. f .transform) (r .root)
+module _ {x t : List ℕ} (h : Holds RootFits x t 0) where
+  pub root-transform : Holds (Named TransformFits (ascii "transform")) x t 0
+  root-transform = holds-as (λ v f. has-named "transform" (f .transform)) h
 
-  pub root-vertices : Holds (Has (Elements (Triple Coordinate)) "vertices") x t 0
-  root-vertices = holds-as (λ v f. f .vertices) (r .root)
+  pub root-vertices : Holds (Named (Elements (Triple Coordinate)) (ascii "vertices")) x t 0
+  root-vertices = holds-as (λ v f. has-named "vertices" (f .vertices)) h
 
-  -- the index has all objects
-  offsets-of : (v : Json) → Sub x t 0 v → Offsets x t (objectsOf v) (index .offsets) (index .count)
-  offsets-of v s =
-      let i = r .indexed v s in
-      let few = r .few v s in
-      record { all = omega (arith, i .count); few = omega (arith, i .count); each = i .each }
+module _ {x t : List ℕ} {i k : ℕ} {d₀ d : List ℕ} {to r : ℕ} where
+  pub transform-led : Leads (ascii "transform") x t i k → Wrote transformBytes x t k d₀ d to r → Wrote transformMember x t i d₀ d to r
+  unfolding transformMember
+  transform-led l w = wrote-led l w
 
-  pub root-placed : Placed x t (index .offsets) (index .count)
-  root-placed =
+  pub vertices-led : Leads (ascii "vertices") x t i k → Wrote verticesBytes x t k d₀ d to r → Wrote verticesMember x t i d₀ d to r
+  unfolding verticesMember
+  vertices-led l w = wrote-led l w
+
+pub frame-wrote : {x t : List ℕ} {i : ℕ} {d₀ d₁ d₂ : List ℕ} {to m r : ℕ} → Wrote transformMember x t i d₀ d₁ to m → Wrote verticesMember x t i d₁ d₂ m r → Wrote frameBytes x t i d₀ d₂ to r
+unfolding frameBytes
+frame-wrote u w = record { is = λ v s. then (u .is v s) (w .is v s) }
+
+pub ending-wrote : {at end : ℕ} {d d′ : List ℕ} → Closes 9 at end end d d′ → Writes (layRec (rec 9 [])) d d′ at end
+ending-wrote {end = end} {d = d} c = c .closes [] d (nothing d end)
+
+module _ {x t offsets children parents : List ℕ} (r : Ready x t offsets children parents) where
+  pub ready-root : Holds RootFits x t 0
+  ready-root = r .root
+
+  pub ready-placed : Placed x t offsets children parents
+  ready-placed =
       let n = r .root .node in
-      let o = offsets-of (n .value) (n .stands) in
+      let o = r .indexed (n .value) (n .stands) in
       let ms = objectsOf (n .value) in
       record {
         objects = record { members = ms; stand = o; short = n .short };
-        fits = λ k l. holds-at (getD ms k nobody .1) (o .each k nobody l .value) (n .short) (all-at (λ m. ObjectFits (m .1)) ms k nobody (r .root .holds (n .value) (n .stands) .objects) (omega (arith, o .all)));
+        fits = λ k l.
+            let fit = r .root .holds (n .value) (n .stands) .objects in
+            holds-at (getD ms k nobody .1) (o .each k nobody l .value) (n .short) (all-at (λ m. ObjectFits (m .1)) ms k nobody fit (omega (arith, o .all)));
+        below = r .below;
+        above = r .above;
       }
 
-  pub sheet-wrote : {i j : ℕ} {found listed : Found} {d₀ d₁ d₂ d₃ d₄ : List ℕ} {a b c end : ℕ}
-      → Seeks (λ v. find "transform" v) x t 0 found → found ≡ At i → Seeks (λ v. find "vertices" v) x t 0 listed → listed ≡ At j
-      → Wrote transformBytes x t i d₀ d₁ 0 a → Wrote verticesBytes x t j d₁ d₂ a b → ObjectsWrote x t (index .offsets) (index .count) d₂ d₃ b c → Closes 9 c end end d₃ d₄ → SheetWrote x t d₀ d₄ end
-  sheet-wrote k e l g u w o z = record {
-    is = λ v s.
-        as-bytes (sym (sheet-parts v))
-        (then (then (then (wrote-at "transform" k e u .is v s) (wrote-at "vertices" l g w .is v s)) (o .is (objectsOf v) (offsets-of v s))) (z .closes [] _ (nothing _ _)));
-  }
+  pub sheet-wrote : {d₀ d₁ d₂ d₃ : List ℕ} {a b end : ℕ} → Wrote frameBytes x t 0 d₀ d₁ 0 a → ObjectsWrote x t offsets d₁ d₂ a b → Writes (layRec (rec 9 [])) d₂ d₃ b end → SheetWrote x t d₀ d₃ end
+  unfolding frameBytes transformMember verticesMember get find
+  sheet-wrote u o z = record { is = λ v s. as-bytes (sym (sheet-parts v)) (then (then (u .is v s) (o .is (objectsOf v) (r .indexed v s))) z) }

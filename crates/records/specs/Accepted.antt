@@ -90,7 +90,8 @@ module _ (n : ℕ) (most : n ≤ 2 ^ 32) where
   unfolding Leaves Elements shaped ranged
   boundary-fits zero v s e = index-fits v (kept (isIntegerValue v) 12 v s) e
   boundary-fits (suc d) v s e =
-      all-both (λ w. shaped d w ≡ []) (λ w. ranged n d w ≡ []) (Leaves Index d) (boundary-fits d) (elements v) (each-clear (shaped d) (elements v) (nil-right (unless (isArrayValue v) 12 v) _ s)) (each-clear (ranged n d) (elements v) e)
+      all-both (λ w. shaped d w ≡ []) (λ w. ranged n d w ≡ []) (Leaves Index d) (boundary-fits d) (elements v)
+      (each-clear (shaped d) (elements v) (nil-right (unless (isArrayValue v) 12 v) _ s)) (each-clear (ranged n d) (elements v) e)
 
   -- values over a boundary
   values-fit : (d : ℕ) (b v : Json) → matches d b v ≡ [] → ranged n d v ≡ [] → Leaves Value d v
@@ -110,7 +111,8 @@ unfolding threePairs Triple Elements Pair eachElement numberKind threeEntries pa
 pairs-fit v h e =
     let (a, (n, (t, (p, r)))) = clear (arrayKind ∷ eachElement numberKind ∷ threeEntries ∷ eachElement pairRange ∷ []) v e in (
       eqb-true _ _ (implied (isArrayValue v) (eqb (length (elements v)) 3) (kept (isArrayValue v) 7 v a) (kept _ 12 v t)),
-      all-both (λ w. numberKind w ≡ []) (λ w. pairRange w ≡ []) Pair one (elements v) (each-clear numberKind (elements v) n) (each-clear pairRange (elements v) p),
+      all-both (λ w. numberKind w ≡ []) (λ w. pairRange w ≡ []) Pair one (elements v)
+          (each-clear numberKind (elements v) n) (each-clear pairRange (elements v) p),
     )
   where
     one : (w : Json) → numberKind w ≡ [] → pairRange w ≡ [] → Pair w
@@ -121,7 +123,8 @@ vertex-fits : Fit vertex (Triple Coordinate)
 unfolding Triple Elements Coordinate
 vertex-fits v h e =
     let (l, i, c) = vertex-clear v e in
-    (l, all-both (λ w. isIntegerValue w ≡ true) (λ w. coordinate w ≡ []) Coordinate (λ w p q. (p, coordinate-clear w p q)) (elements v) i (each-clear coordinate (elements v) c))
+    let both = all-both (λ w. isIntegerValue w ≡ true) (λ w. coordinate w ≡ []) Coordinate (λ w p q. (p, coordinate-clear w p q)) in
+    (l, both (elements v) i (each-clear coordinate (elements v) c))
 
 -- ---- geometries
 
@@ -129,7 +132,8 @@ vertex-fits v h e =
 lod-there : (object code : ℕ) (v : Json) → objectKind v ≡ [] → needsLod v ≡ [] → geometryType object code (get "type" v) ≡ [] → isSome (find "lod" v) ≡ true
 unfolding needsLod geometryType
 lod-there object code v o e t =
-    let (s, (a, (b, r))) = clear (stringKind ∷ text 10 isGeometryType ∷ text 11 (λ w. not (is "GeometryInstance" w)) ∷ text 14 (λ w. eqb code 0 || isPermitted object code) ∷ []) (get "type" v) t in
+    let rest = text 11 (λ w. not (is "GeometryInstance" w)) ∷ text 14 (λ w. eqb code 0 || isPermitted object code) ∷ [] in
+    let (s, (a, (b, r))) = clear (stringKind ∷ text 10 isGeometryType ∷ rest) (get "type" v) t in
     let f = not-true _ (text-ok 11 (λ w. not (is "GeometryInstance" w)) (get "type" v) s b) in
     has ("lod" ∷ []) v o (cond-right _ [] (needs ("lod" ∷ []) v) (ap (is "GeometryInstance") (type-text v) ∙ f) e) .0
 
@@ -142,11 +146,14 @@ semantics-fit : (c : ℕ) → 1 ≤ c → (b : Json) → shaped (depth c) b ≡ 
 unfolding semantics
 semantics-fit c k b s v h e =
     let n = countIn (find "surfaces" v) in
-    let (o, (d, (f, (x, r)))) = clear (objectKind ∷ needs ("surfaces" ∷ "values" ∷ []) ∷ at "surfaces" surfaces ∷ at "values" (schema.values n c (some b)) ∷ []) v e in
+    let (o, (d, (f, (x, r)))) =
+    clear (objectKind ∷ needs ("surfaces" ∷ "values" ∷ []) ∷ at "surfaces" surfaces ∷ at "values" (schema.values n c (some b)) ∷ []) v e in
     record { values = has-fits (schema.values n c (some b)) (Leaves Value (valuesDepth c)) one "values" v h (has ("surfaces" ∷ "values" ∷ []) v o d .1 .0) x }
   where
     one : Fit (schema.values (countIn (find "surfaces" v)) c (some b)) (Leaves Value (valuesDepth c))
-    one w z q = let (m, p) = values-clear c k (countIn (find "surfaces" v)) b w s q in values-fit (countIn (find "surfaces" v)) (count-small "surfaces" v h) (valuesDepth c) b w m p
+    one w z q =
+        let n = countIn (find "surfaces" v) in
+        let (m, p) = values-clear c k n b w s q in values-fit n (count-small "surfaces" v h) (valuesDepth c) b w m p
 
 geometry-fits : (n : ℕ) → n ≤ 2 ^ 32 → (object : ℕ) → Fit (geometry n object) GeometryFits
 unfolding geometry geometryCode at
@@ -160,9 +167,13 @@ geometry-fits n most object v h e =
     record {
       shape = record {
         lod = lod-fits v (lod-there object c v o l y) k;
-        boundary = has-fits (boundaries n c) (Leaves Index (depth c)) (λ u i j. let (x, f) = boundary-clear c g n u j in boundary-fits n most (depth c) u x f) "boundaries" v h p b;
+        boundary =
+            has-fits (boundaries n c) (Leaves Index (depth c)) (λ u i j. let (x, f) = boundary-clear c g n u j in boundary-fits n most (depth c) u x f)
+            "boundaries" v h p b;
       };
-      semantics = perhaps-fits (semantics c (some (get "boundaries" v))) (SemanticsFit c) (semantics-fit c g (get "boundaries" v) w) "semantics" v h (subst (λ u. on (semantics c u) (find "semantics" v) ≡ []) (found "boundaries" v p) s);
+      semantics =
+          perhaps-fits (semantics c (some (get "boundaries" v))) (SemanticsFit c) (semantics-fit c g (get "boundaries" v) w)
+          "semantics" v h (subst (λ u. on (semantics c u) (find "semantics" v) ≡ []) (found "boundaries" v p) s);
     }
 
 -- ---- the root
@@ -200,7 +211,10 @@ fits v h e =
     record {
       transform = has-fits transform TransformFits transform-fits "transform" v h z f;
       vertices = has-fits vertices (Elements (Triple Coordinate)) (array-fits vertex (Triple Coordinate) vertex-fits) "vertices" v h u p;
-      objects = rw (objects-members v) (members-fit (cityObject n) ObjectFits (object-fits n (count-small "vertices" v h)) (members j) (members-within 65535 j (omega (arith, get-size "CityObjects" v))) (objects-clear n j (at-some "CityObjects" (cityObjects n) v w c)));
+      objects =
+          rw (objects-members v)
+          (members-fit (cityObject n) ObjectFits (object-fits n (count-small "vertices" v h)) (members j)
+          (members-within 65535 j (omega (arith, get-size "CityObjects" v))) (objects-clear n j (at-some "CityObjects" (cityObjects n) v w c)));
     }
 
 -- so the tree of a text that is not too long

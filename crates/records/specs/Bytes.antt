@@ -34,7 +34,8 @@ semanticsIn code (some v) = semanticsBytes code v
 
 -- a geometry's type, lod and boundary: kind 6
 unfoldable pub shapeBytes : ℕ → Json → List ℕ
-shapeBytes code v = layRec (rec 6 (le 2 code ++ le 2 (lodCode (lodOf (textIn (find "lod" v)))) ++ layNest (depth code) (nestOf indexOf (depth code) (get "boundaries" v))))
+shapeBytes code v =
+    layRec (rec 6 (le 2 code ++ le 2 (lodCode (lodOf (textIn (find "lod" v)))) ++ layNest (depth code) (nestOf indexOf (depth code) (get "boundaries" v))))
 
 -- a geometry: kind 6, and with semantics kinds 7 and 8
 unfoldable pub geometryBytes : Json → List ℕ

@@ -3,4 +3,5 @@ pub mod Fits
 pub mod Bytes
 pub mod Parts
 pub mod Says
+pub mod Members
 pub mod Accepted

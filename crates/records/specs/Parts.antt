@@ -62,19 +62,25 @@ unfolding geometryBytes geometryRecs geometryOf shapeBytes geometryCode concatMa
 geometry-parts v =
     let c = sym (type-text v) in
     let l = text-get "lod" v in
-    (λ i. geometryFrom (codeOf geometryWords (c i)) (l i) v) ∙ ap (λ r. shapeBytes (geometryCode v) v ++ r) (semantics-perhaps (geometryCode v) (find "semantics" v))
+    (λ i. geometryFrom (codeOf geometryWords (c i)) (l i) v)
+    ∙ ap (λ r. shapeBytes (geometryCode v) v ++ r) (semantics-perhaps (geometryCode v) (find "semantics" v))
 
 -- the numbers of linked objects
-numbers-map : (ids : List (List ℕ)) (vs : List Json) → concatMap (le 4) (map (objectNumber ids) (map textOf vs)) ≡ concatMap (λ s. le 4 (objectNumber ids (textOf s))) vs
+numbers-map : (ids : List (List ℕ)) (vs : List Json)
+    → concatMap (le 4) (map (objectNumber ids) (map textOf vs)) ≡ concatMap (λ s. le 4 (objectNumber ids (textOf s))) vs
 numbers-map ids vs = each-map (le 4) (objectNumber ids) (map textOf vs) ∙ each-map (λ t. le 4 (objectNumber ids t)) textOf vs
 
 -- three records and those after them
 three-records : (p q r : Rec) (l : List Rec) → concatMap layRec (p ∷ q ∷ r ∷ l) ≡ layRec p ++ layRec q ++ layRec r ++ concatMap layRec l
 unfolding concatMap
-three-records p q r l = sym (append-assoc (layRec p ++ layRec q) (layRec r) (concatMap layRec l) ∙ append-assoc (layRec p) (layRec q) (layRec r ++ concatMap layRec l))
+three-records p q r l =
+    sym (append-assoc (layRec p ++ layRec q) (layRec r) (concatMap layRec l)
+    ∙ append-assoc (layRec p) (layRec q) (layRec r ++ concatMap layRec l))
 
 pub object-parts : (ids : List (List ℕ)) (m : Member)
-    → objectBytes ids m ≡ identityBytes m ++ layRec (rec 4 (numbersIn ids (find "children" (m .1)))) ++ layRec (rec 5 (numbersIn ids (find "parents" (m .1)))) ++ eachIn geometryBytes (find "geometry" (m .1))
+    → objectBytes ids m
+    ≡ identityBytes m ++ layRec (rec 4 (numbersIn ids (find "children" (m .1)))) ++ layRec (rec 5 (numbersIn ids (find "parents" (m .1))))
+    ++ eachIn geometryBytes (find "geometry" (m .1))
 unfolding objectBytes objectRecs numberObject objectOf identityBytes numbersIn eachIn geometryBytes get
 object-parts ids m =
     let v = m .1 in
@@ -103,18 +109,25 @@ ended p q l r =
     ap (λ m. layRec p ++ (layRec q ++ m)) (each-++ layRec l (r ∷ []) ∙ ap (λ m. concatMap layRec l ++ m) (append-nil (layRec r)))
     ∙ sym (append-assoc (layRec p ++ layRec q) (concatMap layRec l) (layRec r) ∙ append-assoc (layRec p) (layRec q) (concatMap layRec l ++ layRec r))
 
-pub sheet-parts : (v : Json) → sheetOf (modelOf v) ≡ transformBytes (get "transform" v) ++ verticesBytes (get "vertices" v) ++ concatMap (objectBytes (namesOf (objectsOf v))) (objectsOf v) ++ layRec (rec 9 [])
+pub sheet-parts : (v : Json)
+    → sheetOf (modelOf v)
+    ≡ transformBytes (get "transform" v) ++ verticesBytes (get "vertices" v)
+    ++ concatMap (objectBytes (namesOf (objectsOf v))) (objectsOf v) ++ layRec (rec 9 [])
 unfolding sheetOf layModel modelRecs numberModel modelOf transformBytes verticesBytes objectBytes
 sheet-parts v =
     let ms = members (get "CityObjects" v) in
     let vs = elements (get "vertices" v) in
     let ids = idsOf (map objectOf ms) in
     let w = each-map (layThree (signed 4)) (threeOf integerOf) vs in
-    let o = each-each objectRecs layRec (map (numberObject ids) (map objectOf ms)) ∙ each-map (λ a. concatMap layRec (objectRecs a)) (numberObject ids) (map objectOf ms) ∙ each-map (λ a. concatMap layRec (objectRecs (numberObject ids a))) objectOf ms in
+    let o =
+    each-each objectRecs layRec (map (numberObject ids) (map objectOf ms))
+    ∙ each-map (λ a. concatMap layRec (objectRecs a)) (numberObject ids) (map objectOf ms)
+    ∙ each-map (λ a. concatMap layRec (objectRecs (numberObject ids a))) objectOf ms in
     let n = ids-names ms in
     let e = sym (objects-members v) in
     ended
-    (rec 1 (layThree layDecimal (threeOf decimalOf (get "scale" (get "transform" v))) ++ layThree layDecimal (threeOf decimalOf (get "translate" (get "transform" v)))))
+    (rec 1 (layThree layDecimal (threeOf decimalOf (get "scale" (get "transform" v)))
+    ++ layThree layDecimal (threeOf decimalOf (get "translate" (get "transform" v)))))
     (rec 2 (concatMap (layThree (signed 4)) (map (threeOf integerOf) vs)))
     (concatMap objectRecs (map (numberObject ids) (map objectOf ms))) (rec 9 [])
     ∙ (λ i. transformBytes (get "transform" v) ++ layRec (rec 2 (w i)) ++ o i ++ layRec (rec 9 []))

@@ -1,8 +1,8 @@
 -- What the writers of records ask and tell.
 use mathlib.Core.Path.{_≡_}
-use mathlib.Core.List.{List}
+use mathlib.Core.List.{List, _++_}
 use mathlib.Core.Option.{Option, some}
-use Prim.Native.Nat.{ℕ, _+_, _<_, _≤_}
+use Prim.Native.Nat.{ℕ, _+_, _<_}
 use lib.ListN.{length, getD}
 use Rattle.strings.specs.Spans.{Span, decodeAt}
 use Rattle.json.specs.Tree.{Json}
@@ -11,16 +11,18 @@ use Rattle.nodes.specs.Access.{Member}
 use Rattle.nodes.specs.Says.{Finds, Sought}
 use Rattle.nodes.specs.declared.Found.{Found}
 use Rattle.fields.specs.Fields.{textIn, objectsOf}
-use Rattle.fields.specs.Says.{MemberAt, Indexed}
-use Rattle.fields.specs.declared.Index.{Index}
+use Rattle.fields.specs.Says.{MemberAt}
 use Rattle.ids.specs.Says.{Offsets, Objects, namesOf}
+use Rattle.rows.specs.Rows.{linkNumbers}
+use Rattle.rows.specs.Says.{Listed}
+use Rattle.utf8.specs.Bytes.{le}
 use Rattle.model.specs.Code.{concatMap}
 use Rattle.model.specs.Model.{layRec, rec, sheetOf}
 use Rattle.model.specs.Read.{modelOf}
 use Rattle.writer.specs.Writes.{Writes}
-use Rattle.arrays.specs.Says.{Holds, WroteFound}
+use Rattle.arrays.specs.Says.{Holds}
 use Rattle.records.specs.Fits.{ObjectFits, RootFits}
-use Rattle.records.specs.Bytes.{numbersIn, identityBytes, objectBytes}
+use Rattle.records.specs.Bytes.{identityBytes, objectBytes}
 use Rattle.records.specs.declared.Quote.{Quote}
 
 -- if something was found, P holds of it
@@ -33,36 +35,41 @@ pub record Quotes (x t : List ℕ) (found : Found) (q : Quote) : Type 0 where
   pub span : Span x (q .from) (q .to)
   pub text : (o : Option Json) → Finds x t o found → decodeAt x (q .from) (q .to) ≡ textIn o
 
--- the numbers of the objects that the list that was found names were to be written, in a record of that kind
-pub record LinksWrote (x t offsets : List ℕ) (count : ℕ) (found : Found) (kind : ℕ) (d₀ d : List ℕ) (to r : ℕ) : Type 0 where
-  pub is : (ms : List Member) → Offsets x t ms offsets count → WroteFound (λ o. layRec (rec kind (numbersIn (namesOf ms) o))) x t found d₀ d to r
+-- a record of that kind with the numbers of a row
+unfoldable pub linkBytes : ℕ → List ℕ → List ℕ
+linkBytes kind row = layRec (rec kind (concatMap (le 4) row))
 
--- the same without the record's header
-pub record NumbersWrote (x t offsets : List ℕ) (count : ℕ) (found : Found) (d₀ d : List ℕ) (to r : ℕ) : Type 0 where
-  pub is : (ms : List Member) → Offsets x t ms offsets count → WroteFound (numbersIn (namesOf ms)) x t found d₀ d to r
+-- the links of an object were to be written: kinds 4 and 5
+pub record LinksWrote (children parents d₀ d : List ℕ) (to r : ℕ) : Type 0 where
+  pub is : Writes (linkBytes 4 children ++ linkBytes 5 parents) d₀ d to r
 
 -- the type and the ID of the object whose name stands at the node `own` were to be written
 pub record IdentityWrote (x t : List ℕ) (own : ℕ) (d₀ d : List ℕ) (to r : ℕ) : Type 0 where
   pub is : (m : Member) → MemberAt x t own m → Writes (identityBytes m) d₀ d to r
 
--- the records of the object whose name stands at the node `own` were to be written
-pub record ObjectWrote (x t offsets : List ℕ) (count own : ℕ) (d₀ d : List ℕ) (to r : ℕ) : Type 0 where
-  pub is : (ms : List Member) → Offsets x t ms offsets count → (m : Member) → MemberAt x t own m → Writes (objectBytes (namesOf ms) m) d₀ d to r
+-- the records of the object whose name stands at the node `own` were to be written, where the rows have the numbers of the objects that it lists
+pub record ObjectWrote (x t : List ℕ) (own : ℕ) (children parents d₀ d : List ℕ) (to r : ℕ) : Type 0 where
+  pub is : (names : List (List ℕ)) (m : Member) → MemberAt x t own m → children ≡ linkNumbers names "children" (m .1)
+      → parents ≡ linkNumbers names "parents" (m .1)
+      → Writes (objectBytes names m) d₀ d to r
 
--- each object of the index is as the writers ask
-pub record Placed (x t offsets : List ℕ) (count : ℕ) : Type 0 where
-  pub objects : Objects x t offsets count
-  pub fits : (k : ℕ) → k < count → Holds ObjectFits x t (getD offsets k 0 + 3)
+-- each object is as the writers ask, and the rows have what they list
+pub record Placed (x t offsets children parents : List ℕ) : Type 0 where
+  pub objects : Objects x t offsets
+  pub fits : (k : ℕ) → k < length offsets → Holds ObjectFits x t (getD offsets k 0 + 3)
+  pub below : Listed x t offsets "children" children
+  pub above : Listed x t offsets "parents" parents
 
 -- the records of all objects were to be written
-pub record ObjectsWrote (x t offsets : List ℕ) (count : ℕ) (d₀ d : List ℕ) (to r : ℕ) : Type 0 where
-  pub is : (ms : List Member) → Offsets x t ms offsets count → Writes (concatMap (objectBytes (namesOf ms)) ms) d₀ d to r
+pub record ObjectsWrote (x t offsets d₀ d : List ℕ) (to r : ℕ) : Type 0 where
+  pub is : (ms : List Member) → Offsets x t ms offsets → Writes (concatMap (objectBytes (namesOf ms)) ms) d₀ d to r
 
--- a text as the writers ask stands at the node 0, with the index of its objects
-pub record Ready (x t : List ℕ) (index : Index) : Type 0 where
+-- a text as the writers ask stands at the node 0, with the offsets of its objects and the rows of what they list
+pub record Ready (x t offsets children parents : List ℕ) : Type 0 where
   pub root : Holds RootFits x t 0
-  pub few : (v : Json) → Sub x t 0 v → length (objectsOf v) ≤ 1024
-  pub indexed : (v : Json) → Sub x t 0 v → Indexed x t (objectsOf v) index
+  pub indexed : (v : Json) → Sub x t 0 v → Offsets x t (objectsOf v) offsets
+  pub below : Listed x t offsets "children" children
+  pub above : Listed x t offsets "parents" parents
 
 -- the sheet of the text was to be written
 pub record SheetWrote (x t : List ℕ) (d₀ d : List ℕ) (r : ℕ) : Type 0 where

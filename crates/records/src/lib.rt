@@ -1,24 +1,33 @@
 // Writes the records of an accepted text's sheet from its node table.
 // If they do not fit, a part of them may be written, and the cursor is then past the sheet.
 // Each function takes the cursor at which it is to write and gives the one after.
-use fields::Index;
 use nodes::Found;
 ghost use Prim.Native.Nat.{_+_, _-_, _≤_};
 ghost use mathlib.Core.Bool.{true};
+ghost use mathlib.Core.List.{[]};
 ghost use mathlib.Core.Path.{_≡_};
 ghost use Rattle.strings.specs.Spans.{Span, decodeAt};
-ghost use Rattle.nodes.specs.Says.{Node, Sought};
-ghost use Rattle.words.specs.Words.{isLod};
-ghost use Rattle.ids.specs.Says.{Objects, MemberNode, Chains};
-ghost use Rattle.model.specs.Model.{laySurface, lodCode};
+ghost use Rattle.nodes.specs.Access.{nameOf};
+ghost use Rattle.nodes.specs.Says.{Node, Sought, Gives};
+ghost use Rattle.words.specs.Words.{isLod, codeOf, objectWords, depth, valuesDepth};
+ghost use Rattle.utf8.specs.Ascii.{ascii};
+ghost use Rattle.fields.specs.Fields.{typeText};
+ghost use Rattle.ids.specs.Says.{MemberNode};
+ghost use Rattle.marks.specs.Marks.{rowOf};
+ghost use Rattle.marks.specs.Says.{RowAt};
+ghost use Rattle.utf8.specs.Bytes.{le};
+ghost use Rattle.model.specs.Code.{concatMap};
+ghost use Rattle.model.specs.Model.{rec, layRec, laySurface, lodCode};
 ghost use Rattle.model.specs.Read.{surfaceNamed, lodOf};
 ghost use Rattle.writer.specs.Writes.{Writes};
-ghost use Rattle.arrays.specs.Fits.{Value, Elements, Leaves, Triple, Coordinate};
+ghost use Rattle.arrays.specs.Fits.{Pair, Index as IndexNumber, Value, Elements, Triple, Leaves, Coordinate};
 ghost use Rattle.arrays.specs.Says.{Holds, Wrote, WroteFound};
-ghost use Rattle.words.specs.Words.{valuesDepth};
-ghost use Rattle.records.specs.Fits.{Text, SemanticsFit, ShapeFits, GeometryFits, ObjectFits, TransformFits};
-ghost use Rattle.records.specs.Bytes.{eachIn, surfaceBytes, valuesBytes, semanticsBytes, shapeBytes, geometryBytes, transformBytes, verticesBytes};
-ghost use Rattle.records.specs.Says.{HoldsFound, Quotes, LinksWrote, NumbersWrote, IdentityWrote, ObjectWrote, Placed, ObjectsWrote, Ready, SheetWrote};
+ghost use Rattle.records.specs.Members.{There, Leads, Named, QuotesIn, LodFits, MemberWrote};
+ghost use Rattle.records.specs.Members.{pairsMember, lodMember, boundaryMember, surfacesMember, valuesMember, semanticsMember, geometriesMember, transformMember, verticesMember, frameBytes};
+ghost use Rattle.records.specs.Members.{each, surfacePayload, valuesPayload, shapePayload, identityPayload, transformPayload};
+ghost use Rattle.records.specs.Fits.{Perhaps, Text, geometryCode, SemanticsFit, ShapeFits, GeometryFits, ObjectFits, TransformFits, RootFits};
+ghost use Rattle.records.specs.Bytes.{eachIn, surfaceBytes, semanticsBytes, shapeBytes, geometryBytes, transformBytes, verticesBytes};
+ghost use Rattle.records.specs.Says.{HoldsFound, Quotes, linkBytes, LinksWrote, IdentityWrote, ObjectWrote, Placed, ObjectsWrote, Ready, SheetWrote};
 
 // Where the bytes of a string stand in the text, between its quotes.
 struct Quote {
@@ -41,6 +50,26 @@ fn quoted(text: &[u8], table: &[u32], found: Found) -> Quote
         from: fields::text_from(text, table, k),
         to: fields::text_to(text, table, k),
     }
+}
+
+// Where the bytes of a member that is a string stand; no bytes, if there is no such member.
+fn quoted_member(text: &[u8], table: &[u32], i: usize, name: &[u8]) -> Quote
+    requires { ⌜ Node (now text) (now table) i ⌝ }
+    ensures { λ r. ⌜ QuotesIn (now (name .entry)) (now (text .entry)) (now (table .entry)) i r ⌝ }
+{
+    quoted(text, table, nodes::member(text, table, i, name))
+}
+
+// The node of a member that is there.
+fn the_member(text: &[u8], table: &[u32], i: usize, name: &[u8]) -> usize
+    requires { ⌜ Holds (There (now name)) (now text) (now table) i ⌝ }
+    ensures { λ r. ⌜ Leads (now (name .entry)) (now (text .entry)) (now (table .entry)) i r ⌝ }
+{
+    let found = nodes::member(text, table, i, name);
+    let Found::At(k) = found else {
+        return i;
+    };
+    k
 }
 
 // The value of a digit.
@@ -78,30 +107,32 @@ fn surface_type(text: &[u8], from: usize, to: usize, sheet: &mut [u8], at: usize
     writer::put2(sheet, at, words::surface_code(text, from, to) as u64)
 }
 
+// The payload of the surface at a node.
+fn surface_body(text: &[u8], table: &[u32], i: usize, sheet: &mut [u8], at: usize) -> usize
+    requires { ⌜ Node (now text) (now table) i ⌝ }
+    ensures { λ r. ⌜ Wrote surfacePayload (now (text .entry)) (now (table .entry)) i (now (sheet .entry)) (now (sheet .exit)) at r ⌝ }
+{
+    let kind = quoted_member(text, table, i, b"type");
+    surface_type(text, kind.from, kind.to, sheet, at)
+}
+
 // A surface: kind 7.
 fn surface(text: &[u8], table: &[u32], i: usize, sheet: &mut [u8], at: usize) -> usize
     requires { ⌜ Node (now text) (now table) i ⌝ }
     ensures { λ r. ⌜ Wrote surfaceBytes (now (text .entry)) (now (table .entry)) i (now (sheet .entry)) (now (sheet .exit)) at r ⌝ }
 {
-    let kind = quoted(text, table, nodes::member(text, table, i, b"type"));
     let body = writer::skip(at, 6);
-    let end = surface_type(text, kind.from, kind.to, sheet, body);
+    let end = surface_body(text, table, i, sheet, body);
     writer::close(sheet, at, body, end, 7);
     end
 }
 
-// The surfaces that were found.
-fn surfaces(text: &[u8], table: &[u32], found: Found, sheet: &mut [u8], at: usize) -> usize
-    requires { ⌜ Sought (now text) (now table) found ⌝ }
-    ensures { λ r. ⌜ WroteFound (eachIn surfaceBytes) (now (text .entry)) (now (table .entry)) found (now (sheet .entry)) (now (sheet .exit)) at r ⌝ }
+// The surfaces in an array.
+fn surfaces(text: &[u8], table: &[u32], i: usize, sheet: &mut [u8], at: usize) -> usize
+    requires { ⌜ Node (now text) (now table) i ⌝ }
+    ensures { λ r. ⌜ Wrote (each surfaceBytes) (now (text .entry)) (now (table .entry)) i (now (sheet .entry)) (now (sheet .exit)) at r ⌝ }
 {
-    let Found::At(i) = found else {
-        return at;
-    };
-    if !nodes::is_array(text, table, i) {
-        return at;
-    }
-    let n = nodes::next(table, i);
+    let n = arrays::elements_end(text, table, i);
     let mut o = at;
     let mut k = i + 3;
     while k < n {
@@ -111,13 +142,41 @@ fn surfaces(text: &[u8], table: &[u32], found: Found, sheet: &mut [u8], at: usiz
     o
 }
 
-// The values of a geometry of that code: kind 8.
+// The surfaces of the semantics at a node.
+fn surfaces_in(text: &[u8], table: &[u32], i: usize, sheet: &mut [u8], at: usize) -> usize
+    requires { ⌜ Node (now text) (now table) i ⌝ }
+    ensures { λ r. ⌜ Wrote surfacesMember (now (text .entry)) (now (table .entry)) i (now (sheet .entry)) (now (sheet .exit)) at r ⌝ }
+{
+    let found = nodes::member(text, table, i, b"surfaces");
+    let Found::At(k) = found else {
+        return at;
+    };
+    surfaces(text, table, k, sheet, at)
+}
+
+// The payload of the values of the semantics at a node, of a geometry of that code.
+fn values_body(
+    text: &[u8],
+    table: &[u32],
+    i: usize,
+    code: usize,
+    sheet: &mut [u8],
+    at: usize,
+) -> usize
+    requires { ⌜ Holds (Named (Leaves Value (valuesDepth code)) (ascii "values")) (now text) (now table) i ⌝ }
+    ensures { λ r. ⌜ Wrote (valuesPayload code) (now (text .entry)) (now (table .entry)) i (now (sheet .entry)) (now (sheet .exit)) at r ⌝ }
+{
+    let k = the_member(text, table, i, b"values");
+    arrays::values(text, table, k, types::values_depth_of(code), sheet, at)
+}
+
+// The values of the semantics at a node: kind 8.
 fn values(text: &[u8], table: &[u32], i: usize, code: usize, sheet: &mut [u8], at: usize) -> usize
-    requires { ⌜ Holds (Leaves Value (valuesDepth code)) (now text) (now table) i ⌝ }
-    ensures { λ r. ⌜ Wrote (valuesBytes code) (now (text .entry)) (now (table .entry)) i (now (sheet .entry)) (now (sheet .exit)) at r ⌝ }
+    requires { ⌜ Holds (SemanticsFit code) (now text) (now table) i ⌝ }
+    ensures { λ r. ⌜ Wrote (valuesMember code) (now (text .entry)) (now (table .entry)) i (now (sheet .entry)) (now (sheet .exit)) at r ⌝ }
 {
     let body = writer::skip(at, 6);
-    let end = arrays::values(text, table, i, types::values_depth_of(code), sheet, body);
+    let end = values_body(text, table, i, code, sheet, body);
     writer::close(sheet, at, body, end, 8);
     end
 }
@@ -134,31 +193,81 @@ fn semantics(
     requires { ⌜ Holds (SemanticsFit code) (now text) (now table) i ⌝ }
     ensures { λ r. ⌜ Wrote (semanticsBytes code) (now (text .entry)) (now (table .entry)) i (now (sheet .entry)) (now (sheet .exit)) at r ⌝ }
 {
-    let listed = nodes::member(text, table, i, b"surfaces");
-    let next = surfaces(text, table, listed, sheet, at);
-    let found = nodes::member(text, table, i, b"values");
-    let Found::At(k) = found else {
-        return next;
-    };
-    values(text, table, k, code, sheet, next)
+    let next = surfaces_in(text, table, i, sheet, at);
+    values(text, table, i, code, sheet, next)
 }
 
-// The type of that code, the lod and the boundary of a geometry: kind 6.
+// The semantics of the geometry at a node, if it has any.
+fn semantics_in(
+    text: &[u8],
+    table: &[u32],
+    i: usize,
+    code: usize,
+    sheet: &mut [u8],
+    at: usize,
+) -> usize
+    requires { ⌜ Holds (Perhaps (SemanticsFit code) "semantics") (now text) (now table) i ⌝ }
+    ensures { λ r. ⌜ Wrote (semanticsMember code) (now (text .entry)) (now (table .entry)) i (now (sheet .entry)) (now (sheet .exit)) at r ⌝ }
+{
+    let found = nodes::member(text, table, i, b"semantics");
+    let Found::At(k) = found else {
+        return at;
+    };
+    semantics(text, table, k, code, sheet, at)
+}
+
+// The lod of a geometry in two bytes.
+fn lod(text: &[u8], table: &[u32], i: usize, sheet: &mut [u8], at: usize) -> usize
+    requires { ⌜ Holds LodFits (now text) (now table) i ⌝ }
+    ensures { λ r. ⌜ Wrote lodMember (now (text .entry)) (now (table .entry)) i (now (sheet .entry)) (now (sheet .exit)) at r ⌝ }
+{
+    let quote = quoted_member(text, table, i, b"lod");
+    writer::put2(sheet, at, lod_code(text, quote.from, quote.to))
+}
+
+// The boundary of a geometry of that code.
+fn boundary(text: &[u8], table: &[u32], i: usize, code: usize, sheet: &mut [u8], at: usize) -> usize
+    requires { ⌜ Holds (Named (Leaves IndexNumber (depth code)) (ascii "boundaries")) (now text) (now table) i ⌝ }
+    ensures { λ r. ⌜ Wrote (boundaryMember code) (now (text .entry)) (now (table .entry)) i (now (sheet .entry)) (now (sheet .exit)) at r ⌝ }
+{
+    let k = the_member(text, table, i, b"boundaries");
+    arrays::boundary(text, table, k, types::depth_of(code), sheet, at)
+}
+
+// The type of that code, the lod and the boundary of a geometry.
+fn shape_body(
+    text: &[u8],
+    table: &[u32],
+    i: usize,
+    code: usize,
+    sheet: &mut [u8],
+    at: usize,
+) -> usize
+    requires { ⌜ Holds (ShapeFits code) (now text) (now table) i ⌝ }
+    ensures { λ r. ⌜ Wrote (shapePayload code) (now (text .entry)) (now (table .entry)) i (now (sheet .entry)) (now (sheet .exit)) at r ⌝ }
+{
+    let first = writer::put2(sheet, at, code as u64);
+    let second = lod(text, table, i, sheet, first);
+    boundary(text, table, i, code, sheet, second)
+}
+
+// Their record: kind 6.
 fn shape(text: &[u8], table: &[u32], i: usize, code: usize, sheet: &mut [u8], at: usize) -> usize
     requires { ⌜ Holds (ShapeFits code) (now text) (now table) i ⌝ }
     ensures { λ r. ⌜ Wrote (shapeBytes code) (now (text .entry)) (now (table .entry)) i (now (sheet .entry)) (now (sheet .exit)) at r ⌝ }
 {
-    let found = nodes::member(text, table, i, b"boundaries");
-    let Found::At(k) = found else {
-        return at;
-    };
-    let lod = quoted(text, table, nodes::member(text, table, i, b"lod"));
     let body = writer::skip(at, 6);
-    let first = writer::put2(sheet, body, code as u64);
-    let second = writer::put2(sheet, first, lod_code(text, lod.from, lod.to));
-    let end = arrays::boundary(text, table, k, types::depth_of(code), sheet, second);
+    let end = shape_body(text, table, i, code, sheet, body);
     writer::close(sheet, at, body, end, 6);
     end
+}
+
+// The code of a geometry's type.
+fn geometry_code(text: &[u8], table: &[u32], i: usize) -> usize
+    requires { ⌜ Node (now text) (now table) i ⌝ }
+    ensures { λ r. ⌜ Gives geometryCode (now (text .entry)) (now (table .entry)) i r ⌝ }
+{
+    fields::geometry_code(text, table, nodes::member(text, table, i, b"type"))
 }
 
 // A geometry: kind 6, and with semantics kinds 7 and 8.
@@ -166,14 +275,24 @@ fn geometry(text: &[u8], table: &[u32], i: usize, sheet: &mut [u8], at: usize) -
     requires { ⌜ Holds GeometryFits (now text) (now table) i ⌝ }
     ensures { λ r. ⌜ Wrote geometryBytes (now (text .entry)) (now (table .entry)) i (now (sheet .entry)) (now (sheet .exit)) at r ⌝ }
 {
-    let kind = nodes::member(text, table, i, b"type");
-    let code = fields::geometry_code(text, table, kind);
+    let code = geometry_code(text, table, i);
     let next = shape(text, table, i, code, sheet, at);
-    let found = nodes::member(text, table, i, b"semantics");
-    let Found::At(k) = found else {
-        return next;
-    };
-    semantics(text, table, k, code, sheet, next)
+    semantics_in(text, table, i, code, sheet, next)
+}
+
+// The geometries in an array.
+fn each_geometry(text: &[u8], table: &[u32], i: usize, sheet: &mut [u8], at: usize) -> usize
+    requires { ⌜ Holds (Elements GeometryFits) (now text) (now table) i ⌝ }
+    ensures { λ r. ⌜ Wrote (each geometryBytes) (now (text .entry)) (now (table .entry)) i (now (sheet .entry)) (now (sheet .exit)) at r ⌝ }
+{
+    let n = arrays::elements_end(text, table, i);
+    let mut o = at;
+    let mut k = i + 3;
+    while k < n {
+        o = geometry(text, table, k, sheet, o);
+        k = nodes::next(table, k);
+    }
+    o
 }
 
 // The geometries that were found.
@@ -184,169 +303,149 @@ fn geometries(text: &[u8], table: &[u32], found: Found, sheet: &mut [u8], at: us
     let Found::At(i) = found else {
         return at;
     };
-    if !nodes::is_array(text, table, i) {
-        return at;
-    }
-    let n = nodes::next(table, i);
-    let mut o = at;
-    let mut k = i + 3;
-    while k < n {
-        o = geometry(text, table, k, sheet, o);
-        k = nodes::next(table, k);
-    }
-    o
+    each_geometry(text, table, i, sheet, at)
 }
 
-// The numbers of the objects that the list that was found names.
-fn numbers(
-    text: &[u8],
-    table: &[u32],
-    offsets: &[usize; 1024],
-    count: usize,
-    heads: &[u16; 4096],
-    nexts: &[u16; 1024],
-    found: Found,
-    sheet: &mut [u8],
-    at: usize,
-) -> usize
-    requires { ⌜ (Objects (now text) (now table) (now offsets) count) × (Chains (now text) (now table) (now offsets) count (now heads) (now nexts)) × (HoldsFound (Elements Text) (now text) (now table) found) ⌝ }
-    ensures { λ r. ⌜ NumbersWrote (now (text .entry)) (now (table .entry)) (now (offsets .entry)) count found (now (sheet .entry)) (now (sheet .exit)) at r ⌝ }
+// The geometries of the object at a node.
+fn geometries_in(text: &[u8], table: &[u32], i: usize, sheet: &mut [u8], at: usize) -> usize
+    requires { ⌜ Holds ObjectFits (now text) (now table) i ⌝ }
+    ensures { λ r. ⌜ Wrote geometriesMember (now (text .entry)) (now (table .entry)) i (now (sheet .entry)) (now (sheet .exit)) at r ⌝ }
 {
-    let Found::At(i) = found else {
-        return at;
-    };
-    if !nodes::is_array(text, table, i) {
-        return at;
-    }
-    let n = nodes::next(table, i);
+    let found = nodes::member(text, table, i, b"geometry");
+    geometries(text, table, found, sheet, at)
+}
+
+// The numbers of a row of links.
+fn numbers(row: &[u16], sheet: &mut [u8], at: usize) -> usize
+    ensures { λ r. ⌜ Writes (concatMap (le 4) (now (row .entry))) (now (sheet .entry)) (now (sheet .exit)) at r ⌝ }
+{
     let mut o = at;
-    let mut k = i + 3;
-    while k < n {
-        let other = ids::number(text, table, offsets, count, heads, nexts, k);
-        o = writer::put4(sheet, o, other as u64);
-        k = nodes::next(table, k);
+    let mut j = 0;
+    while j < row.len() {
+        o = writer::put4(sheet, o, marks::word(row, j) as u64);
+        j += 1;
     }
     o
 }
 
-// The links of the list that was found: kind 4 or 5.
-fn link_record(
-    text: &[u8],
-    table: &[u32],
-    offsets: &[usize; 1024],
-    count: usize,
-    heads: &[u16; 4096],
-    nexts: &[u16; 1024],
-    found: Found,
-    kind: u64,
-    sheet: &mut [u8],
-    at: usize,
-) -> usize
-    requires { ⌜ (Objects (now text) (now table) (now offsets) count) × (Chains (now text) (now table) (now offsets) count (now heads) (now nexts)) × (HoldsFound (Elements Text) (now text) (now table) found) ⌝ }
-    ensures { λ r. ⌜ LinksWrote (now (text .entry)) (now (table .entry)) (now (offsets .entry)) count found kind (now (sheet .entry)) (now (sheet .exit)) at r ⌝ }
+// Their record: kind 4 or 5.
+fn link_record(row: &[u16], kind: u64, sheet: &mut [u8], at: usize) -> usize
+    ensures { λ r. ⌜ Writes (linkBytes kind (now (row .entry))) (now (sheet .entry)) (now (sheet .exit)) at r ⌝ }
 {
     let body = writer::skip(at, 6);
-    let end = numbers(
-        text,
-        table,
-        offsets,
-        count,
-        heads,
-        nexts,
-        found,
-        sheet,
-        body,
-    );
+    let end = numbers(row, sheet, body);
     writer::close(sheet, at, body, end, kind);
     end
 }
 
-// The type and the ID of the object whose name stands at node `own`: kind 3.
+// The links of the object of number k: kind 4 for its children, kind 5 for its parents.
+fn links(children: &[u16], parents: &[u16], k: usize, sheet: &mut [u8], at: usize) -> usize
+    requires { ⌜ (RowAt (now children) k) × (RowAt (now parents) k) ⌝ }
+    ensures { λ r. ⌜ LinksWrote (rowOf (now (children .entry)) k) (rowOf (now (parents .entry)) k) (now (sheet .entry)) (now (sheet .exit)) at r ⌝ }
+{
+    let next = link_record(marks::row(children, k), 4, sheet, at);
+    link_record(marks::row(parents, k), 5, sheet, next)
+}
+
+// The code of an object's type.
+fn object_code(text: &[u8], table: &[u32], i: usize) -> usize
+    requires { ⌜ Node (now text) (now table) i ⌝ }
+    ensures { λ r. ⌜ Gives (λ v. codeOf objectWords (typeText v)) (now (text .entry)) (now (table .entry)) i r ⌝ }
+{
+    fields::object_code(text, table, nodes::member(text, table, i, b"type"))
+}
+
+// The ID of the object whose name stands at node `own`.
+fn id(text: &[u8], table: &[u32], own: usize, sheet: &mut [u8], at: usize) -> usize
+    requires { ⌜ MemberNode (now text) (now table) own ⌝ }
+    ensures { λ r. ⌜ MemberWrote nameOf (now (text .entry)) (now (table .entry)) own (now (sheet .entry)) (now (sheet .exit)) at r ⌝ }
+{
+    let from = nodes::start(table, own);
+    let to = nodes::end(table, own);
+    writer::string(text, from + 1, to - 1, sheet, at)
+}
+
+// The type and the ID of the object whose name stands at node `own`.
+fn identity_body(text: &[u8], table: &[u32], own: usize, sheet: &mut [u8], at: usize) -> usize
+    requires { ⌜ (MemberNode (now text) (now table) own) × (Node (now text) (now table) (own + 3)) ⌝ }
+    ensures { λ r. ⌜ MemberWrote identityPayload (now (text .entry)) (now (table .entry)) own (now (sheet .entry)) (now (sheet .exit)) at r ⌝ }
+{
+    let code = object_code(text, table, own + 3);
+    let next = writer::put2(sheet, at, code as u64);
+    id(text, table, own, sheet, next)
+}
+
+// Their record: kind 3.
 fn identity(text: &[u8], table: &[u32], own: usize, sheet: &mut [u8], at: usize) -> usize
     requires { ⌜ (MemberNode (now text) (now table) own) × (Node (now text) (now table) (own + 3)) ⌝ }
     ensures { λ r. ⌜ IdentityWrote (now (text .entry)) (now (table .entry)) own (now (sheet .entry)) (now (sheet .exit)) at r ⌝ }
 {
-    let i = own + 3;
-    let kind = nodes::member(text, table, i, b"type");
-    let code = fields::object_code(text, table, kind);
-    let from = nodes::start(table, own);
-    let to = nodes::end(table, own);
     let body = writer::skip(at, 6);
-    let id = writer::put2(sheet, body, code as u64);
-    let end = writer::string(text, from + 1, to - 1, sheet, id);
+    let end = identity_body(text, table, own, sheet, body);
     writer::close(sheet, at, body, end, 3);
     end
 }
 
-// The object whose name stands at node `own`: kinds 3, 4 and 5, and its geometries.
+// The object of number k, whose name stands at node `own`: kinds 3, 4 and 5, and its geometries.
 fn object(
     text: &[u8],
     table: &[u32],
-    offsets: &[usize; 1024],
-    count: usize,
-    heads: &[u16; 4096],
-    nexts: &[u16; 1024],
     own: usize,
+    children: &[u16],
+    parents: &[u16],
+    k: usize,
     sheet: &mut [u8],
     at: usize,
 ) -> usize
-    requires { ⌜ (Objects (now text) (now table) (now offsets) count) × (Chains (now text) (now table) (now offsets) count (now heads) (now nexts)) × (MemberNode (now text) (now table) own) × (Holds ObjectFits (now text) (now table) (own + 3)) ⌝ }
-    ensures { λ r. ⌜ ObjectWrote (now (text .entry)) (now (table .entry)) (now (offsets .entry)) count own (now (sheet .entry)) (now (sheet .exit)) at r ⌝ }
+    requires { ⌜ (MemberNode (now text) (now table) own) × (Holds ObjectFits (now text) (now table) (own + 3)) ⌝ }
+    requires { ⌜ (RowAt (now children) k) × (RowAt (now parents) k) ⌝ }
+    ensures { λ r. ⌜ ObjectWrote (now (text .entry)) (now (table .entry)) own (rowOf (now (children .entry)) k) (rowOf (now (parents .entry)) k)
+        (now (sheet .entry)) (now (sheet .exit)) at r ⌝ }
 {
-    let i = own + 3;
-    let children = nodes::member(text, table, i, b"children");
-    let parents = nodes::member(text, table, i, b"parents");
-    let geometry = nodes::member(text, table, i, b"geometry");
     let a = identity(text, table, own, sheet, at);
-    let b = link_record(
-        text,
-        table,
-        offsets,
-        count,
-        heads,
-        nexts,
-        children,
-        4,
-        sheet,
-        a,
-    );
-    let c = link_record(
-        text,
-        table,
-        offsets,
-        count,
-        heads,
-        nexts,
-        parents,
-        5,
-        sheet,
-        b,
-    );
-    geometries(text, table, geometry, sheet, c)
+    let b = links(children, parents, k, sheet, a);
+    geometries_in(text, table, own + 3, sheet, b)
 }
 
 // All objects.
 fn objects(
     text: &[u8],
     table: &[u32],
-    offsets: &[usize; 1024],
-    count: usize,
-    heads: &[u16; 4096],
-    nexts: &[u16; 1024],
+    offsets: &[usize],
+    children: &[u16],
+    parents: &[u16],
     sheet: &mut [u8],
     at: usize,
 ) -> usize
-    requires { ⌜ (Placed (now text) (now table) (now offsets) count) × (Chains (now text) (now table) (now offsets) count (now heads) (now nexts)) ⌝ }
-    ensures { λ r. ⌜ ObjectsWrote (now (text .entry)) (now (table .entry)) (now (offsets .entry)) count (now (sheet .entry)) (now (sheet .exit)) at r ⌝ }
+    requires { ⌜ Placed (now text) (now table) (now offsets) (now children) (now parents) ⌝ }
+    ensures { λ r. ⌜ ObjectsWrote (now (text .entry)) (now (table .entry)) (now (offsets .entry)) (now (sheet .entry)) (now (sheet .exit)) at r ⌝ }
 {
     let mut o = at;
     let mut k = 0;
-    while k < count {
+    while k < offsets.len() {
         let own = offsets[k];
-        o = object(text, table, offsets, count, heads, nexts, own, sheet, o);
+        o = object(text, table, own, children, parents, k, sheet, o);
         k += 1;
     }
     o
+}
+
+// The three pairs of a member that is there.
+fn pairs(text: &[u8], table: &[u32], i: usize, name: &[u8], sheet: &mut [u8], at: usize) -> usize
+    requires { ⌜ Holds (Named (Triple Pair) (now name)) (now text) (now table) i ⌝ }
+    ensures { λ r. ⌜ Wrote (pairsMember (now (name .entry))) (now (text .entry)) (now (table .entry)) i (now (sheet .entry)) (now (sheet .exit)) at r ⌝ }
+{
+    let k = the_member(text, table, i, name);
+    arrays::pairs(text, table, k, sheet, at)
+}
+
+// The payload of the transform.
+fn transform_body(text: &[u8], table: &[u32], i: usize, sheet: &mut [u8], at: usize) -> usize
+    requires { ⌜ Holds TransformFits (now text) (now table) i ⌝ }
+    ensures { λ r. ⌜ Wrote transformPayload (now (text .entry)) (now (table .entry)) i (now (sheet .entry)) (now (sheet .exit)) at r ⌝ }
+{
+    let middle = pairs(text, table, i, b"scale", sheet, at);
+    pairs(text, table, i, b"translate", sheet, middle)
 }
 
 // The transform: kind 1.
@@ -354,19 +453,19 @@ fn transform(text: &[u8], table: &[u32], i: usize, sheet: &mut [u8], at: usize) 
     requires { ⌜ Holds TransformFits (now text) (now table) i ⌝ }
     ensures { λ r. ⌜ Wrote transformBytes (now (text .entry)) (now (table .entry)) i (now (sheet .entry)) (now (sheet .exit)) at r ⌝ }
 {
-    let scale = nodes::member(text, table, i, b"scale");
-    let Found::At(j) = scale else {
-        return at;
-    };
-    let translate = nodes::member(text, table, i, b"translate");
-    let Found::At(k) = translate else {
-        return at;
-    };
     let body = writer::skip(at, 6);
-    let middle = arrays::pairs(text, table, j, sheet, body);
-    let end = arrays::pairs(text, table, k, sheet, middle);
+    let end = transform_body(text, table, i, sheet, body);
     writer::close(sheet, at, body, end, 1);
     end
+}
+
+// The transform of the root: kind 1.
+fn transform_in(text: &[u8], table: &[u32], sheet: &mut [u8], at: usize) -> usize
+    requires { ⌜ Holds RootFits (now text) (now table) 0 ⌝ }
+    ensures { λ r. ⌜ Wrote transformMember (now (text .entry)) (now (table .entry)) 0 (now (sheet .entry)) (now (sheet .exit)) at r ⌝ }
+{
+    let i = the_member(text, table, 0, b"transform");
+    transform(text, table, i, sheet, at)
 }
 
 // The vertices: kind 2.
@@ -380,28 +479,46 @@ fn vertices(text: &[u8], table: &[u32], i: usize, sheet: &mut [u8], at: usize) -
     end
 }
 
+// The vertices of the root.
+fn vertices_in(text: &[u8], table: &[u32], sheet: &mut [u8], at: usize) -> usize
+    requires { ⌜ Holds RootFits (now text) (now table) 0 ⌝ }
+    ensures { λ r. ⌜ Wrote verticesMember (now (text .entry)) (now (table .entry)) 0 (now (sheet .entry)) (now (sheet .exit)) at r ⌝ }
+{
+    let i = the_member(text, table, 0, b"vertices");
+    vertices(text, table, i, sheet, at)
+}
+
+// The last record, kind 9, which has no payload.
+fn ending(sheet: &mut [u8], at: usize) -> usize
+    ensures { λ r. ⌜ Writes (layRec (rec 9 [])) (now (sheet .entry)) (now (sheet .exit)) at r ⌝ }
+{
+    let end = writer::skip(at, 6);
+    writer::close(sheet, at, end, end, 9);
+    end
+}
+
+// What comes before the objects: kinds 1 and 2.
+fn frame(text: &[u8], table: &[u32], sheet: &mut [u8]) -> usize
+    requires { ⌜ Holds RootFits (now text) (now table) 0 ⌝ }
+    ensures { λ r. ⌜ Wrote frameBytes (now (text .entry)) (now (table .entry)) 0 (now (sheet .entry)) (now (sheet .exit)) 0 r ⌝ }
+{
+    let next = transform_in(text, table, sheet, 0);
+    vertices_in(text, table, sheet, next)
+}
+
 // The sheet of the text: kinds 1 and 2, the objects, and kind 9, which ends it.
-pub fn sheet(text: &[u8], table: &[u32], index: Index, sheet: &mut [u8]) -> usize
-    requires { ⌜ Ready (now text) (now table) index ⌝ }
+pub fn sheet(
+    text: &[u8],
+    table: &[u32],
+    offsets: &[usize],
+    children: &[u16],
+    parents: &[u16],
+    sheet: &mut [u8],
+) -> usize
+    requires { ⌜ Ready (now text) (now table) (now offsets) (now children) (now parents) ⌝ }
     ensures { λ r. ⌜ SheetWrote (now (text .entry)) (now (table .entry)) (now (sheet .entry)) (now (sheet .exit)) r ⌝ }
 {
-    let found = nodes::member(text, table, 0, b"transform");
-    let Found::At(i) = found else {
-        return 0;
-    };
-    let listed = nodes::member(text, table, 0, b"vertices");
-    let Found::At(j) = listed else {
-        return 0;
-    };
-    let a = transform(text, table, i, sheet, 0);
-    let b = vertices(text, table, j, sheet, a);
-    let offsets = index.offsets;
-    let count = index.count;
-    let mut heads: [u16; 4096] = [0; 4096];
-    let mut nexts: [u16; 1024] = [0; 1024];
-    ids::fill(text, table, &offsets, count, &mut heads, &mut nexts);
-    let c = objects(text, table, &offsets, count, &heads, &nexts, sheet, b);
-    let end = writer::skip(c, 6);
-    writer::close(sheet, c, end, end, 9);
-    end
+    let a = frame(text, table, sheet);
+    let b = objects(text, table, offsets, children, parents, sheet, a);
+    ending(sheet, b)
 }

@@ -86,7 +86,9 @@ unfolding answer fitted
 of-laid x r l n e = by (verdict x) refl e
   where
     by : (o : Verdict) → verdict x ≡ o → fitted x r o ≡ laid l n → Laid x r l n
-    by (judge.accepted k) q d = let (t, z, w) = laid-if _ _ _ _ _ _ d in record { accepted = q ∙ ap accepted w; size = sym z; fits = omega (arith, leb-true _ r t) }
+    by (judge.accepted k) q d =
+        let (t, z, w) = laid-if _ _ _ _ _ _ d in
+        record { accepted = q ∙ ap accepted w; size = sym z; fits = omega (arith, leb-true _ r t) }
     by (judge.refused s p) q d = clash cc
 
 -- the room then holds the sheet, and zeros after it
@@ -110,7 +112,8 @@ room-length x r = by (answer x r) refl
     by : (a : Answer) → answer x r ≡ a → length (roomAfter x r) ≡ r
     by (laid l n) e =
         let q = of-laid x r l n e in
-        omega (arith, ap length (holds-sheet x r l n e), length-append (sheetOfText x) (replicate (r - l) 0), length-replicate {A = ℕ} (r - l) 0, q .size, q .fits)
+        omega
+        (arith, ap length (holds-sheet x r l n e), length-append (sheetOfText x) (replicate (r - l) 0), length-replicate {A = ℕ} (r - l) 0, q .size, q .fits)
     by (refused s p) e = ap length (holds-zeros x r s p e) ∙ length-replicate r 0
 
 -- accepted texts with the same sheet and the same object count have the same answers and leave the same bytes
@@ -159,7 +162,8 @@ verdict-low : (x : List ℕ) → Low (verdict x)
 unfolding verdict screening Low
 verdict-low x = by (ltb 65535 (length x)) (ltb (wholeLength x) (length x))
   where
-    by : (a b : Bool) → Low (elim (cond a (some (judge.refused 1 65535)) (cond b (some (judge.refused 2 (wholeLength x))) none)) [ some v ↦ v | none ↦ parsed (read x) ])
+    by : (a b : Bool)
+        → Low (elim (cond a (some (judge.refused 1 65535)) (cond b (some (judge.refused 2 (wholeLength x))) none)) [ some v ↦ v | none ↦ parsed (read x) ])
     by true b = omega arith
     by false true = omega arith
     by false false = parsed-low (read x)

@@ -11,8 +11,7 @@ pub use Rattle.utf8.specs.Laws.{nil-left, nil-right}
 use Rattle.json.specs.Tree.{Json, null}
 use Rattle.nodes.specs.Access.{isNumberValue, isStringValue, isObjectValue, elements, members, textOf, numeralOf, find}
 use Rattle.shapes.specs.Checks.{Check, unless, all, on, at, forEach, eachElement, objectKind, stringKind, arrayKind, isSome, needs, text, numeral}
-use Rattle.fields.specs.Fields.{textIn, typeText, countIn, membersIn, objectsOf}
-use Rattle.links.specs.Links.{elementsIn, listedIn}
+use Rattle.fields.specs.Fields.{textIn, elementsIn, listedIn, typeText, countIn, membersIn, objectsOf}
 use Rattle.model.specs.Code.{All}
 use Rattle.model.specs.Lists.{all-both, all-of-map}
 use Rattle.model.specs.Read.{orNull, get}
@@ -125,10 +124,12 @@ each-clear c (v ∷ vs) e = (nil-left (c v) (forEach c vs) e, each-clear c vs (n
 -- each of some values in which two checks find no fault reads as good
 pub both-good : {A : Type 0} (c d : Check) (read : Json → A) (P : A → Type 0) → ((v : Json) → c v ≡ [] → d v ≡ [] → P (read v))
     → (vs : List Json) → forEach c vs ≡ [] → forEach d vs ≡ [] → All P (map read vs)
-both-good c d read P one vs e f = all-of-map P read vs (all-both (λ v. c v ≡ []) (λ v. d v ≡ []) (λ v. P (read v)) one vs (each-clear c vs e) (each-clear d vs f))
+both-good c d read P one vs e f =
+    all-of-map P read vs (all-both (λ v. c v ≡ []) (λ v. d v ≡ []) (λ v. P (read v)) one vs (each-clear c vs e) (each-clear d vs f))
 
 -- the same of one check
-pub each-good : {A : Type 0} (c : Check) (read : Json → A) (P : A → Type 0) → ((v : Json) → c v ≡ [] → P (read v)) → (vs : List Json) → forEach c vs ≡ [] → All P (map read vs)
+pub each-good : {A : Type 0} (c : Check) (read : Json → A) (P : A → Type 0) → ((v : Json) → c v ≡ [] → P (read v)) → (vs : List Json) → forEach c vs ≡ []
+    → All P (map read vs)
 each-good c read P one vs e = both-good c c read P (λ v p q. one v p) vs e e
 
 -- so does each element of a member that is an array, if it is there
@@ -136,7 +137,8 @@ pub list-good : {A : Type 0} (c : Check) (read : Json → A) (P : A → Type 0) 
     → (n : String) (v : Json) → at n (all (arrayKind ∷ eachElement c ∷ [])) v ≡ [] → All P (map read (elements (get n v)))
 unfolding eachElement elements
 list-good c read P one n v e =
-    at-null (all (arrayKind ∷ eachElement c ∷ [])) (λ w. All P (map read (elements w))) (λ w d. each-good c read P one (elements w) (clear (arrayKind ∷ eachElement c ∷ []) w d .1 .0)) tt n v e
+    at-null (all (arrayKind ∷ eachElement c ∷ [])) (λ w. All P (map read (elements w)))
+    (λ w d. each-good c read P one (elements w) (clear (arrayKind ∷ eachElement c ∷ []) w d .1 .0)) tt n v e
 
 -- ---- what the rules look up is what is read
 

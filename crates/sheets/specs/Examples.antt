@@ -19,13 +19,19 @@ use Rattle.sheets.specs.Laid.{Answer, laid, refused, answer, modelOfText
 
 -- opening this opens all that an answer and a sheet need
 unfoldable pub lays : List ℕ → ℕ → Answer
-unfolding answer roomAfter ascii step wantStep gotStep nextStep nameStep mantStep noughtStep isBlank isDigit isHex isEscape _◂_ with decimal codeOf objectWords geometryWords surfaceWords depth valuesDepth elements members nameOf textOf find le signed concatMap layRec layThree layDecimal minorCode lodCode layNest layValue layValues laySurface surfaceRecs semanticsRecs geometryRecs objectRecs modelRecs layModel objectNumber idsOf numberObject numberModel orNull get read.maybeDecimal zeroIfNone decimalOf wholeOf integerOf natural indexOf valueOf threeOf nestOf minorOf lodOf surfaceNamed surfaceOf semanticsOf geometryOf objectOf
+unfolding answer roomAfter ascii step wantStep gotStep nextStep nameStep mantStep noughtStep isBlank isDigit isHex isEscape _◂_ with decimal codeOf objectWords
+    geometryWords surfaceWords depth valuesDepth elements members nameOf textOf find le signed concatMap layRec layThree layDecimal minorCode lodCode layNest
+    layValue layValues laySurface surfaceRecs semanticsRecs geometryRecs objectRecs modelRecs layModel objectNumber idsOf numberObject numberModel orNull get
+    read.maybeDecimal zeroIfNone decimalOf wholeOf integerOf natural indexOf valueOf threeOf nestOf minorOf lodOf surfaceNamed surfaceOf semanticsOf geometryOf
+    objectOf
 lays text room = answer text room
 
 -- CityJSON's minimal object
 unfoldable pub minimal : List ℕ
 unfolding ascii
-minimal = ascii "{ \"type\": \"CityJSON\", \"version\": \"2.0\", \"transform\": { \"scale\": [1.0, 1.0, 1.0], \"translate\": [0.0, 0.0, 0.0] }, \"CityObjects\": {}, \"vertices\": [] }"
+minimal =
+    ascii "{ \"type\": \"CityJSON\", \"version\": \"2.0\", \"transform\": { \"scale\": [1.0, 1.0, 1.0], \"translate\": [0.0, 0.0, 0.0] }, "
+    ++ ascii "\"CityObjects\": {}, \"vertices\": [] }"
 
 -- it is laid
 minimal-laid : lays minimal 65536 ≡ laid 78 0
@@ -58,8 +64,15 @@ unfolding lays minimal
 minimal-after = refl
 
 -- document 01's kiosk
-kiosk : lays (ascii "{\"type\":\"CityJSON\",\"version\":\"2.0\",\"transform\":{\"scale\":[0.001,0.001,0.001],\"translate\":[0.0,0.0,0.0]},\"CityObjects\":{\"kiosk\":{\"type\":\"CityFurniture\",\"geometry\":[{\"type\":\"MultiPoint\",\"lod\":\"1\",\"boundaries\":[0]}]}},\"vertices\":[[10,-20,30]]}") 65536 ≡ laid 133 1
-unfolding lays
+unfoldable kioskText : List ℕ
+unfolding ascii
+kioskText =
+    ascii "{\"type\":\"CityJSON\",\"version\":\"2.0\",\"transform\":{\"scale\":[0.001,0.001,0.001],\"translate\":[0.0,0.0,0.0]},"
+    ++ (ascii "\"CityObjects\":{\"kiosk\":{\"type\":\"CityFurniture\",\"geometry\":[{\"type\":\"MultiPoint\",\"lod\":\"1\",\"boundaries\":[0]}]}},"
+    ++ ascii "\"vertices\":[[10,-20,30]]}")
+
+kiosk : lays kioskText 65536 ≡ laid 133 1
+unfolding lays kioskText
 kiosk = refl
 
 -- a text with an ID written by \u00e9, by the pair \ud83c\udfe0, and by the two bytes of U+00FC

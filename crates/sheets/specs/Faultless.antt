@@ -19,12 +19,12 @@ use Rattle.json.specs.Tree.{Json, null}
 use Rattle.nodes.specs.Access.{isStringValue, elements, members, Member, nameOf, textOf, find, firstNamed}
 use Rattle.everywhere.specs.Everywhere.{among, rule5, rule6}
 use Rattle.nodes.specs.Faults.{fault}
-use Rattle.fields.specs.Fields.{typeText, countIn}
+use Rattle.fields.specs.Fields.{listedIn, typeText, countIn}
 use Rattle.shapes.specs.Checks.{Check, all, on, at, forEach, values, eachMember, objectKind, stringKind, arrayKind, isSome, needs, text, isEmpty}
 use Rattle.shapes.specs.Shapes.{vertex, shaped, ranged, matches}
 use Rattle.schema.specs.Schema.{isObjectType, isGeometryType, isSurfaceType, word, objectType, geometryType, lod, surfaceType, boundary, boundaries, surface, surfaces, overBoundary, semantics, needsLod, geometry, geometries, links, cityObject, objectLimit, cityObjects, threePairs, transform, vertices, cityJson}
 use Rattle.schema.specs.Schema as schema
-use Rattle.links.specs.Links.{listedIn, idsAmong, link, linksFrom, parentLink, linksOf, linksOfEach, linkFaults}
+use Rattle.links.specs.Links.{idsAmong, link, linksFrom, parentLink, linksOf, linksOfEach, linkFaults}
 use Rattle.verdict.specs.Verdict.{faults}
 use Rattle.model.specs.Code.{All}
 use Rattle.model.specs.Model.{added, objectNumber, idsOf}
@@ -121,7 +121,9 @@ getD-le (a ∷ l) (b ∷ m) h (suc i) = getD-le l m (h .1) i
 -- by the table of depths
 values-depth : (c : ℕ) → valuesDepth c ≤ depth c
 unfolding valuesDepth depth
-values-depth c = getD-le (0 ∷ 1 ∷ 1 ∷ 1 ∷ 1 ∷ 2 ∷ 3 ∷ 3 ∷ []) (0 ∷ 1 ∷ 2 ∷ 3 ∷ 3 ∷ 4 ∷ 5 ∷ 5 ∷ []) (omega arith, (omega arith, (omega arith, (omega arith, (omega arith, (omega arith, (omega arith, (omega arith, tt)))))))) c
+values-depth c =
+    getD-le (0 ∷ 1 ∷ 1 ∷ 1 ∷ 1 ∷ 2 ∷ 3 ∷ 3 ∷ []) (0 ∷ 1 ∷ 2 ∷ 3 ∷ 3 ∷ 4 ∷ 5 ∷ 5 ∷ [])
+    (omega arith, (omega arith, (omega arith, (omega arith, (omega arith, (omega arith, (omega arith, (omega arith, tt)))))))) c
 
 -- the empty list
 is-nil : (l : List ℕ) → l ≡ [] → isEmpty l ≡ true
@@ -143,7 +145,8 @@ module _ (c : ℕ) (h : 1 ≤ c) where
       (nil-left _ _ q, nil-right (shaped (depth c) b) _ q)
 
   -- its values, over a boundary that is well shaped
-  pub values-clear : (n : ℕ) (b v : Json) → shaped (depth c) b ≡ [] → schema.values n c (some b) v ≡ [] → (matches (valuesDepth c) b v ≡ []) × (ranged n (valuesDepth c) v ≡ [])
+  pub values-clear : (n : ℕ) (b v : Json) → shaped (depth c) b ≡ [] → schema.values n c (some b) v ≡ []
+      → (matches (valuesDepth c) b v ≡ []) × (ranged n (valuesDepth c) v ≡ [])
   unfolding schema.values overBoundary
   values-clear n b v s e =
       let (a, (d, r)) = clear (arrayKind ∷ overBoundary n c (some b) ∷ []) v e in
@@ -152,17 +155,20 @@ module _ (c : ℕ) (h : 1 ≤ c) where
       (cond-left (isEmpty (shaped (depth c) b)) _ [] (is-nil _ s) (nil-left l _ q), nil-right l _ q)
 
   -- its semantics, if it has them
-  semantics-good : (b : Json) → shaped (depth c) b ≡ [] → (v : Json) → semantics c (some b) v ≡ [] → GoodSemantics c (nestOf indexOf (depth c) b) (some (semanticsOf c v))
+  semantics-good : (b : Json) → shaped (depth c) b ≡ [] → (v : Json) → semantics c (some b) v ≡ []
+      → GoodSemantics c (nestOf indexOf (depth c) b) (some (semanticsOf c v))
   unfolding semantics surfaces semanticsOf
   semantics-good b s v e =
       let n = countIn (find "surfaces" v) in
-      let (o, (d, (f, (x, r)))) = clear (objectKind ∷ needs ("surfaces" ∷ "values" ∷ []) ∷ at "surfaces" surfaces ∷ at "values" (schema.values n c (some b)) ∷ []) v e in
+      let (o, (d, (f, (x, r)))) =
+      clear (objectKind ∷ needs ("surfaces" ∷ "values" ∷ []) ∷ at "surfaces" surfaces ∷ at "values" (schema.values n c (some b)) ∷ []) v e in
       let (m, k) = values-clear n b (get "values" v) s (at-some "values" (schema.values n c (some b)) v (has ("surfaces" ∷ "values" ∷ []) v o d .1 .0) x) in
       let (p, q) = values-good n (depth c) (valuesDepth c) b (get "values" v) (values-depth c) m k in
       (list-good surface surfaceOf GoodSurface surface-good "surfaces" v f, p, rw (← (counted surfaceOf "surfaces" v)) q)
 
   -- the same of semantics that may be absent
-  semantics-perhaps : (b : Json) → shaped (depth c) b ≡ [] → (o : Option Json) → on (semantics c (some b)) o ≡ [] → GoodSemantics c (nestOf indexOf (depth c) b) (Option·map (semanticsOf c) o)
+  semantics-perhaps : (b : Json) → shaped (depth c) b ≡ [] → (o : Option Json) → on (semantics c (some b)) o ≡ []
+      → GoodSemantics c (nestOf indexOf (depth c) b) (Option·map (semanticsOf c) o)
   unfolding on
   semantics-perhaps b s option.none e = tt
   semantics-perhaps b s (some v) e = semantics-good b s v e
@@ -174,9 +180,12 @@ geometryChecks n object c b =
     ∷ at "type" (geometryType object c) ∷ at "lod" lod ∷ at "boundaries" (boundaries n c) ∷ at "semantics" (semantics c b) ∷ []
 
 -- none of them finds a fault
-geometry-clear : (n object : ℕ) (v : Json) → geometry n object v ≡ [] → Clear (geometryChecks n object (codeOf geometryWords (textOf (get "type" v))) (find "boundaries" v)) v
+geometry-clear : (n object : ℕ) (v : Json) → geometry n object v ≡ []
+    → Clear (geometryChecks n object (codeOf geometryWords (textOf (get "type" v))) (find "boundaries" v)) v
 unfolding geometry
-geometry-clear n object v e = clear (geometryChecks n object (codeOf geometryWords (textOf (get "type" v))) (find "boundaries" v)) v (subst (λ t. all (geometryChecks n object (codeOf geometryWords t) (find "boundaries" v)) v ≡ []) (type-text v) e)
+geometry-clear n object v e =
+    clear (geometryChecks n object (codeOf geometryWords (textOf (get "type" v))) (find "boundaries" v)) v
+    (subst (λ t. all (geometryChecks n object (codeOf geometryWords t) (find "boundaries" v)) v ≡ []) (type-text v) e)
 
 -- a geometry
 geometry-good : (n object : ℕ) (v : Json) → geometry n object v ≡ [] → GoodGeometry n (geometryOf v)
@@ -187,7 +196,8 @@ geometry-good n object v e =
     let (q, (p, z)) = has ("type" ∷ "boundaries" ∷ []) v o d in
     let g = geometry-type-good object c (get "type" v) (at-some "type" (geometryType object c) v q t) in
     let (w, i) = boundary-clear c (g .0) n (get "boundaries" v) (at-some "boundaries" (boundaries n c) v p b) in
-    let m : on (semantics c (some (get "boundaries" v))) (find "semantics" v) ≡ [] = subst (λ b′. on (semantics c b′) (find "semantics" v) ≡ []) (found "boundaries" v p) s in
+    let m : on (semantics c (some (get "boundaries" v))) (find "semantics" v) ≡ [] =
+    subst (λ b′. on (semantics c b′) (find "semantics" v) ≡ []) (found "boundaries" v p) s in
     record {
       code = g;
       lod = at-null lod (λ j. GoodLod (lodOf (textOf j))) lod-good lod-null "lod" v k;
@@ -198,7 +208,8 @@ geometry-good n object v e =
 -- ---- links (rule 15)
 
 -- an ID that an object has
-known-if : (b c : Bool) (v : Json) (o : Option Json) (k n : ℕ) → (b ≡ true → c ≡ true) → (isSome o ≡ true → k < n) → isSome (cond b (some v) o) ≡ true → cond c 0 (suc k) < suc n
+known-if : (b c : Bool) (v : Json) (o : Option Json) (k n : ℕ) → (b ≡ true → c ≡ true) → (isSome o ≡ true → k < n) → isSome (cond b (some v) o) ≡ true
+    → cond c 0 (suc k) < suc n
 known-if true true v o k n f g e = omega arith
 known-if true false v o k n f g e = absurd (never (f refl) refl)
 known-if false true v o k n f g e = omega arith
@@ -208,7 +219,8 @@ known-if false false v o k n f g e = omega (arith, g e)
 known : (t : List ℕ) (ms : List Member) → isSome (firstNamed t ms) ≡ true → Known (idsOf (map objectOf ms)) t
 unfolding firstNamed isSome objectNumber idsOf objectOf
 known t [] e = absurd (never e refl)
-known t (m ∷ ms) e = known-if (same t (nameOf m)) (same (nameOf m) t) (m .1) (firstNamed t ms) _ _ (λ q. rw (same-equal t (nameOf m) q) (same-refl (nameOf m))) (known t ms) e
+known t (m ∷ ms) e =
+    known-if (same t (nameOf m)) (same (nameOf m) t) (m .1) (firstNamed t ms) _ _ (λ q. rw (same-equal t (nameOf m) q) (same-refl (nameOf m))) (known t ms) e
 
 -- strings
 abbrev Strings : List Json → Type 0
@@ -221,15 +233,19 @@ unfolding linksFrom link
 links-known objects back id excused earlier [] a e = tt
 links-known objects back id excused earlier (s ∷ ss) a e =
     let l = cond (isStringValue s) (link objects back id excused earlier s) [] in
-    let f = cond-left (isStringValue s) (link objects back id excused earlier s) [] (a .0) (nil-left l _ e) in
-    (known (textOf s) objects (both-left _ (not (among earlier (textOf s))) (kept _ 15 s (nil-left _ _ f))), links-known objects back id excused (idsAmong (s ∷ []) ++ earlier) ss (a .1) (nil-right l _ e))
+    let f = cond-left (isStringValue s) (link objects back id excused earlier s) [] (a .0) (nil-left l _ e) in (
+      known (textOf s) objects (both-left _ (not (among earlier (textOf s))) (kept _ 15 s (nil-left _ _ f))),
+      links-known objects back id excused (idsAmong (s ∷ []) ++ earlier) ss (a .1) (nil-right l _ e),
+    )
 
 -- the IDs that an object lists under a name
 listed-known : (objects : List Member) (back : String) (id : List ℕ) (excused : Bool) (n : String) (v : Json)
-    → at n links v ≡ [] → linksFrom objects back id excused [] (listedIn n v) ≡ [] → All (Known (idsOf (map objectOf objects))) (map textOf (elements (get n v)))
+    → at n links v ≡ [] → linksFrom objects back id excused [] (listedIn n v) ≡ []
+    → All (Known (idsOf (map objectOf objects))) (map textOf (elements (get n v)))
 unfolding links
 listed-known objects back id excused n v e l =
-    links-known objects back id excused [] (elements (get n v)) (list-good stringKind isStringValue (λ b. b ≡ true) is-string n v e) (subst (λ ss. linksFrom objects back id excused [] ss ≡ []) (listed-elements n v) l)
+    links-known objects back id excused [] (elements (get n v)) (list-good stringKind isStringValue (λ b. b ≡ true) is-string n v e)
+    (subst (λ ss. linksFrom objects back id excused [] ss ≡ []) (listed-elements n v) l)
 
 -- ---- city objects
 
@@ -240,7 +256,8 @@ objectChecks n v =
     ∷ at "geometry" (geometries n (codeOf objectWords (typeText v))) ∷ []
 
 -- a city object
-object-good : (n : ℕ) (objects : List Member) (m : Member) → cityObject n (m .1) ≡ [] → linksOf objects m ≡ [] → GoodObject n (idsOf (map objectOf objects)) (objectOf m)
+object-good : (n : ℕ) (objects : List Member) (m : Member) → cityObject n (m .1) ≡ [] → linksOf objects m ≡ []
+    → GoodObject n (idsOf (map objectOf objects)) (objectOf m)
 unfolding cityObject linksOf objectOf geometries objectWords
 object-good n objects m e l =
     let v = m .1 in
@@ -257,11 +274,14 @@ object-good n objects m e l =
     }
 
 -- each of several
-objects-good : (n : ℕ) (objects ms : List Member) → forEach (cityObject n) (values ms) ≡ [] → linksOfEach objects ms ≡ [] → All (GoodObject n (idsOf (map objectOf objects))) (map objectOf ms)
+objects-good : (n : ℕ) (objects ms : List Member) → forEach (cityObject n) (values ms) ≡ [] → linksOfEach objects ms ≡ []
+    → All (GoodObject n (idsOf (map objectOf objects))) (map objectOf ms)
 unfolding forEach values linksOfEach
 objects-good n objects [] e l = tt
-objects-good n objects (m ∷ ms) e l =
-    (object-good n objects m (nil-left (cityObject n (m .1)) _ e) (nil-left (linksOf objects m) _ l), objects-good n objects ms (nil-right (cityObject n (m .1)) _ e) (nil-right (linksOf objects m) _ l))
+objects-good n objects (m ∷ ms) e l = (
+  object-good n objects m (nil-left (cityObject n (m .1)) _ e) (nil-left (linksOf objects m) _ l),
+  objects-good n objects ms (nil-right (cityObject n (m .1)) _ e) (nil-right (linksOf objects m) _ l),
+)
 
 -- ---- the model
 
@@ -295,7 +315,9 @@ objects-clear n v e = clear (objectKind ∷ objectLimit ∷ eachMember (cityObje
 -- none of them finds a fault
 root-clear : (v : Json) → cityJson v ≡ [] → Clear (rootChecks (length (map (threeOf integerOf) (elements (get "vertices" v))))) v
 unfolding cityJson
-root-clear v e = clear (rootChecks (length (map (threeOf integerOf) (elements (get "vertices" v))))) v (subst (λ n. all (rootChecks n) v ≡ []) (counted (threeOf integerOf) "vertices" v) e)
+root-clear v e =
+    clear (rootChecks (length (map (threeOf integerOf) (elements (get "vertices" v))))) v
+    (subst (λ n. all (rootChecks n) v ≡ []) (counted (threeOf integerOf) "vertices" v) e)
 
 -- a tree with no fault, of a text that is not too long
 pub model-good : (v : Json) → size v ≤ 65535 → faults v ≡ [] → GoodModel (modelOf v)

@@ -60,7 +60,8 @@ pub boundary-good : (n d : ℕ) (v : Json) → shaped d v ≡ [] → ranged n d 
 unfolding shaped ranged nestOf
 boundary-good n zero v s e = index-good n v (kept (isIntegerValue v) 12 v s) e
 boundary-good n (suc d) v s e =
-    both-good (shaped d) (ranged n d) (nestOf indexOf d) (Leaves (λ i. i < n) d) (boundary-good n d) (elements v) (nil-right (unless (isArrayValue v) 12 v) _ s) e
+    both-good (shaped d) (ranged n d) (nestOf indexOf d) (Leaves (λ i. i < n) d) (boundary-good n d) (elements v)
+    (nil-right (unless (isArrayValue v) 12 v) _ s) e
 
 -- a value is null or below n
 value-good : (n : ℕ) (v : Json) → (isIntegerValue v || isNullValue v) ≡ true → ranged n zero v ≡ [] → GoodValue n (valueOf v)
@@ -81,7 +82,8 @@ abbrev GoodValues : ℕ → ℕ → ℕ → Json → Json → Type 0
 GoodValues n d v b x = Shaped d v (nestOf indexOf d b) (nestOf valueOf v x) × Leaves (GoodValue n) v (nestOf valueOf v x)
 
 -- two lists of one length, by what holds of one level less
-levels-good : (n d v : ℕ) → ((b x : Json) → matches v b x ≡ [] → ranged n v x ≡ [] → GoodValues n d v b x) → (bs xs : List Json) → length bs ≡ length xs → forBoth (matches v) bs xs ≡ [] → forEach (ranged n v) xs ≡ []
+levels-good : (n d v : ℕ) → ((b x : Json) → matches v b x ≡ [] → ranged n v x ≡ [] → GoodValues n d v b x) → (bs xs : List Json) → length bs ≡ length xs
+    → forBoth (matches v) bs xs ≡ [] → forEach (ranged n v) xs ≡ []
     → Both (Shaped d v) (map (nestOf indexOf d) bs) (map (nestOf valueOf v) xs) × All (Leaves (GoodValue n) v) (map (nestOf valueOf v) xs)
 unfolding forBoth forEach
 levels-good n d v good [] [] l p r = (tt, tt)
@@ -93,7 +95,8 @@ levels-good n d v good (b ∷ bs) (x ∷ xs) l p r =
     ((one .0, more .0), (one .1, more .1))
 
 -- one level of values over one of a boundary: of its count
-pub matches-clear : (d : ℕ) (b x : Json) → matches (suc d) b x ≡ [] → (length (elements b) ≡ length (elements x)) × (forBoth (matches d) (elements b) (elements x) ≡ [])
+pub matches-clear : (d : ℕ) (b x : Json) → matches (suc d) b x ≡ []
+    → (length (elements b) ≡ length (elements x)) × (forBoth (matches d) (elements b) (elements x) ≡ [])
 unfolding matches
 matches-clear d b x m =
     let alike = isArrayValue x && eqb (length (elements b)) (length (elements x)) in
@@ -181,13 +184,18 @@ integers [] h = tt
 integers (v ∷ vs) h = (both-left (isIntegerValue v) _ h, integers vs (both-right (isIntegerValue v) _ h))
 
 -- a vertex: three integers, whose range is checked
-pub vertex-clear : (v : Json) → vertex v ≡ [] → (length (elements v) ≡ 3) × All (λ w. isIntegerValue w ≡ true) (elements v) × (forEach coordinate (elements v) ≡ [])
+pub vertex-clear : (v : Json) → vertex v ≡ []
+    → (length (elements v) ≡ 3) × All (λ w. isIntegerValue w ≡ true) (elements v) × (forEach coordinate (elements v) ≡ [])
 unfolding vertex isTriple eachElement
 vertex-clear v e = of (isTriple v) refl e
   where
-    of : (b : Bool) → isTriple v ≡ b → cond b (eachElement coordinate v) (unless false 12 v) ≡ [] → (length (elements v) ≡ 3) × All (λ w. isIntegerValue w ≡ true) (elements v) × (forEach coordinate (elements v) ≡ [])
-    of true q d =
-        (eqb-true _ _ (both-right (isArrayValue v) _ (both-left _ (allIntegers (elements v)) q)), integers (elements v) (both-right (isArrayValue v && eqb (length (elements v)) 3) _ q), d)
+    of : (b : Bool) → isTriple v ≡ b → cond b (eachElement coordinate v) (unless false 12 v) ≡ []
+        → (length (elements v) ≡ 3) × All (λ w. isIntegerValue w ≡ true) (elements v) × (forEach coordinate (elements v) ≡ [])
+    of true q d = (
+      eqb-true _ _ (both-right (isArrayValue v) _ (both-left _ (allIntegers (elements v)) q)),
+      integers (elements v) (both-right (isArrayValue v && eqb (length (elements v)) 3) _ q),
+      d,
+    )
     of false q d = absurd (never (kept false 12 v d) refl)
 
 pub vertex-good : (v : Json) → vertex v ≡ [] → GoodVertex (threeOf integerOf v)
@@ -195,4 +203,6 @@ unfolding integerOf decimalOf maybeDecimal zeroIfNone wholeOf
 vertex-good v e =
     let (l, i, c) = vertex-clear v e in
     three-good integerOf (λ z. mag z < 2 ^ 31) (omega arith) v
-    (all-of-map (λ z. mag z < 2 ^ 31) integerOf (elements v) (all-both (λ w. isIntegerValue w ≡ true) (λ w. coordinate w ≡ []) (λ w. mag (integerOf w) < 2 ^ 31) coordinate-good (elements v) i (each-clear coordinate (elements v) c)))
+    (all-of-map (λ z. mag z < 2 ^ 31) integerOf (elements v)
+    (all-both (λ w. isIntegerValue w ≡ true) (λ w. coordinate w ≡ []) (λ w. mag (integerOf w) < 2 ^ 31) coordinate-good (elements v) i
+    (each-clear coordinate (elements v) c)))

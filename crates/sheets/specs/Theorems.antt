@@ -54,17 +54,20 @@ sizes x r l n e =
     (q .size, q .fits, rw (q .size) (good x n (q .accepted) .short), count x n (q .accepted))
 
 -- demand 3: the bytes that two acceptances give tell their models
-pub tells : (x y : List ℕ) (r s l m n k : ℕ) → answer x r ≡ laid l n → answer y s ≡ laid m k → (take l (roomAfter x r) ≡ take m (roomAfter y s)) ↔ (modelOfText x ≡ modelOfText y)
+pub tells : (x y : List ℕ) (r s l m n k : ℕ) → answer x r ≡ laid l n → answer y s ≡ laid m k
+    → (take l (roomAfter x r) ≡ take m (roomAfter y s)) ↔ (modelOfText x ≡ modelOfText y)
 unfolding sheetOfText
 tells x y r s l m n k e f =
-    rw (begins-sheet x r l n e, begins-sheet y s m k f) (same-sheet-same-model (modelOfText x) (modelOfText y) (good x n (of-laid x r l n e .accepted)) (good y k (of-laid y s m k f .accepted)))
+    rw (begins-sheet x r l n e, begins-sheet y s m k f)
+    (same-sheet-same-model (modelOfText x) (modelOfText y) (good x n (of-laid x r l n e .accepted)) (good y k (of-laid y s m k f .accepted)))
 
 -- and if the models differ, neither begins the other
 pub apart : (x y : List ℕ) (r s l m n k : ℕ) → answer x r ≡ laid l n → answer y s ≡ laid m k → modelOfText x ≢ modelOfText y
     → (¬ IsPrefix (take l (roomAfter x r)) (take m (roomAfter y s))) × (¬ IsPrefix (take m (roomAfter y s)) (take l (roomAfter x r)))
 unfolding sheetOfText
 apart x y r s l m n k e f d =
-    rw (begins-sheet x r l n e, begins-sheet y s m k f) (neither-begins (modelOfText x) (modelOfText y) (good x n (of-laid x r l n e .accepted)) (good y k (of-laid y s m k f .accepted)) d)
+    rw (begins-sheet x r l n e, begins-sheet y s m k f)
+    (neither-begins (modelOfText x) (modelOfText y) (good x n (of-laid x r l n e .accepted)) (good y k (of-laid y s m k f .accepted)) d)
 
 -- an acceptance leaves the sheet in the room, and zeros after it
 pub sheet-then-zeros : (x : List ℕ) (r l n : ℕ) → answer x r ≡ laid l n → roomAfter x r ≡ sheetOfText x ++ replicate (r - l) 0
@@ -131,7 +134,8 @@ pub alike-symmetric : (x y : List ℕ) (n : ℕ) → verdict x ≡ accepted n �
 alike-symmetric x y n e a = alike-sym (treeOf x) (treeOf y) (distinct-names x n e) a
 
 -- two alike texts that are accepted have the same answer and leave the same bytes, in every room
-pub alike-rooms : (x y : List ℕ) (n m r : ℕ) → verdict x ≡ accepted n → verdict y ≡ accepted m → Alike (treeOf x) (treeOf y) → (answer x r ≡ answer y r) × (roomAfter x r ≡ roomAfter y r)
+pub alike-rooms : (x y : List ℕ) (n m r : ℕ) → verdict x ≡ accepted n → verdict y ≡ accepted m → Alike (treeOf x) (treeOf y)
+    → (answer x r ≡ answer y r) × (roomAfter x r ≡ roomAfter y r)
 alike-rooms x y n m r e f a =
     let (p, q) = alike x y a in
     let c : n ≡ m = count x n e ∙ ap (λ t. length (t .objects)) p ∙ sym (count y m f) in

@@ -232,7 +232,8 @@ of-tree x v h w e =
     (λ k. record { broken = breaks x v h e (found (least-in noFault (faults v)) k); least = tree-first x h w v (read-text x v .0 e) })
     (λ k. record { short = h; whole = w; value = v; reads = e; clean = least-none (faults v) (faults-small v (in-text x v h e)) k; count = refl })
   where
-    found : (least noFault (faults v) ≡ noFault) ⊎ List·Memᴰ (least noFault (faults v)) (faults v) → least noFault (faults v) < noFault → List·Memᴰ (least noFault (faults v)) (faults v)
+    found : (least noFault (faults v) ≡ noFault) ⊎ List·Memᴰ (least noFault (faults v)) (faults v) → least noFault (faults v) < noFault
+        → List·Memᴰ (least noFault (faults v)) (faults v)
     found (inl q) k = absurd (omega arith)
     found (inr m) k = m
 

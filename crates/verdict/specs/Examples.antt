@@ -28,10 +28,25 @@ closed-32 : judges (replicate 32 91 ++ replicate 32 93) ≡ refused 7 0
 unfolding judges
 closed-32 = refl
 
-minimal : judges (ascii "{ \"type\": \"CityJSON\", \"version\": \"2.0\", \"transform\": { \"scale\": [1.0, 1.0, 1.0], \"translate\": [0.0, 0.0, 0.0] }, \"CityObjects\": {}, \"vertices\": [] }") ≡ accepted 0
-unfolding judges
+-- CityJSON's minimal object
+unfoldable minimalText : List ℕ
+unfolding ascii
+minimalText =
+    ascii "{ \"type\": \"CityJSON\", \"version\": \"2.0\", \"transform\": { \"scale\": [1.0, 1.0, 1.0], \"translate\": [0.0, 0.0, 0.0] }, "
+    ++ ascii "\"CityObjects\": {}, \"vertices\": [] }"
+
+minimal : judges minimalText ≡ accepted 0
+unfolding judges minimalText
 minimal = refl
 
-kiosk : judges (ascii "{\"type\":\"CityJSON\",\"version\":\"2.0\",\"transform\":{\"scale\":[0.001,0.001,0.001],\"translate\":[0.0,0.0,0.0]},\"CityObjects\":{\"kiosk\":{\"type\":\"CityFurniture\",\"geometry\":[{\"type\":\"MultiPoint\",\"lod\":\"1\",\"boundaries\":[0]}]}},\"vertices\":[[10,-20,30]]}") ≡ accepted 1
-unfolding judges
+-- document 01's kiosk
+unfoldable kioskText : List ℕ
+unfolding ascii
+kioskText =
+    ascii "{\"type\":\"CityJSON\",\"version\":\"2.0\",\"transform\":{\"scale\":[0.001,0.001,0.001],\"translate\":[0.0,0.0,0.0]},"
+    ++ (ascii "\"CityObjects\":{\"kiosk\":{\"type\":\"CityFurniture\",\"geometry\":[{\"type\":\"MultiPoint\",\"lod\":\"1\",\"boundaries\":[0]}]}},"
+    ++ ascii "\"vertices\":[[10,-20,30]]}")
+
+kiosk : judges kioskText ≡ accepted 1
+unfolding judges kioskText
 kiosk = refl

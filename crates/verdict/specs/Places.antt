@@ -23,10 +23,10 @@ use Rattle.shapes.specs.Checks.{Check, unless, all, on, at, forEach, eachElemen
 use Rattle.numerals.specs.Numerals.{integer, pairOf, fits32, isBelow}
 use Rattle.shapes.specs.Shapes.{threeEntries, pairRange, coordinate, isTriple, vertex, shaped, ranged, forBoth, matches, isIntegerValue}
 use Rattle.words.specs.Words.{objectWords, geometryWords, codeOf, is, isAdded, isLod, isSecondLevel, depth, valuesDepth, isPermitted}
-use Rattle.fields.specs.Fields.{typeText, countIn, membersIn, objectsOf}
+use Rattle.fields.specs.Fields.{elementsIn, listedIn, typeText, countIn, membersIn, objectsOf}
 use Rattle.schema.specs.Schema.{isObjectType, isGeometryType, isSurfaceType, oneWord, word, objectType, geometryType, lod, surfaceType, boundary, boundaries, surface, surfaces, overBoundary, semantics, needsLod, geometry, geometries, cityObject, nameFault, objectLimit, cityObjects, threePairs, transform, vertices, cityJson}
 use Rattle.schema.specs.Schema as schema
-use Rattle.links.specs.Links.{elementsIn, listedIn, idsAmong, idsIn, link, linksFrom, parentLink, linksOf, linksOfEach, linkFaults}
+use Rattle.links.specs.Links.{idsAmong, idsIn, link, linksFrom, parentLink, linksOf, linksOfEach, linkFaults}
 use Rattle.model.specs.Code.{All}
 use Rattle.model.specs.Lists.{all-map, all-append}
 use Rattle.verdict.specs.Verdict.{faults}
@@ -247,12 +247,16 @@ coordinate-safe = numeral-safe 7 15 13 (λ raw. fits32 (integer raw)) tt
 
 vertex-safe : Safe 7 15 vertex
 unfolding vertex
-vertex-safe v p = cond-safe 7 15 (isTriple v) (eachElement coordinate v) (unless false 12 v) (each-safe 7 15 coordinate coordinate-safe v p) (unless-safe 7 15 false 12 tt v p)
+vertex-safe v p =
+    cond-safe 7 15 (isTriple v) (eachElement coordinate v) (unless false 12 v) (each-safe 7 15 coordinate coordinate-safe v p)
+    (unless-safe 7 15 false 12 tt v p)
 
 shaped-safe : (d : ℕ) → Safe 7 15 (shaped d)
 unfolding shaped
 shaped-safe zero v p = unless-safe 7 15 (isIntegerValue v) 12 tt v p
-shaped-safe (suc d) v p = all-append (Among 7 15) (unless (isArrayValue v) 12 v) (forEach (shaped d) (elements v)) (unless-safe 7 15 (isArrayValue v) 12 tt v p) (for-safe 7 15 (shaped d) (shaped-safe d) (elements v) (elements-placed p))
+shaped-safe (suc d) v p =
+    all-append (Among 7 15) (unless (isArrayValue v) 12 v) (forEach (shaped d) (elements v)) (unless-safe 7 15 (isArrayValue v) 12 tt v p)
+    (for-safe 7 15 (shaped d) (shaped-safe d) (elements v) (elements-placed p))
 
 ranged-safe : (n d : ℕ) → Safe 7 15 (ranged n d)
 unfolding ranged
@@ -271,7 +275,8 @@ matches-safe zero b v p = unless-safe 7 15 (isIntegerValue v || isNullValue v) 1
 matches-safe (suc d) b v p =
     let alike = isArrayValue v && eqb (length (elements b)) (length (elements v)) in
     all-append (Among 7 15) (unless alike 12 v) (cond alike (forBoth (matches d) (elements b) (elements v)) []) (unless-safe 7 15 alike 12 tt v p)
-    (cond-safe 7 15 alike (forBoth (matches d) (elements b) (elements v)) [] (two-safe (matches d) (matches-safe d) (elements b) (elements v) (elements-placed p)) tt)
+    (cond-safe 7 15 alike (forBoth (matches d) (elements b) (elements v)) []
+    (two-safe (matches d) (matches-safe d) (elements b) (elements v) (elements-placed p)) tt)
 
 -- ---- rules 7 to 14
 
@@ -288,8 +293,14 @@ object-type-safe =
 geometry-type-safe : (object code : ℕ) → Safe 7 15 (geometryType object code)
 unfolding geometryType
 geometry-type-safe object code =
-    all-safe 7 15 (stringKind ∷ text 10 isGeometryType ∷ text 11 (λ w. not (is "GeometryInstance" w)) ∷ text 14 (λ w. eqb code 0 || isPermitted object code) ∷ [])
-    (string-safe, (text-safe 7 15 10 isGeometryType tt, (text-safe 7 15 11 (λ w. not (is "GeometryInstance" w)) tt, (text-safe 7 15 14 (λ w. eqb code 0 || isPermitted object code) tt, tt))))
+    all-safe 7 15
+    (stringKind ∷ text 10 isGeometryType ∷ text 11 (λ w. not (is "GeometryInstance" w)) ∷ text 14 (λ w. eqb code 0 || isPermitted object code) ∷ []) (
+      string-safe,
+      (
+        text-safe 7 15 10 isGeometryType tt,
+        (text-safe 7 15 11 (λ w. not (is "GeometryInstance" w)) tt, (text-safe 7 15 14 (λ w. eqb code 0 || isPermitted object code) tt, tt)),
+      ),
+    )
 
 lod-safe : Safe 7 15 lod
 unfolding lod
@@ -326,7 +337,9 @@ over-safe count code (some b) v p =
     let first = cond (isEmpty (shaped (depth code) b)) (matches (valuesDepth code) b v) [] in
     let second = ranged count (valuesDepth code) v in
     cond-safe 7 15 (eqb code 0) [] (first ++ second) tt
-    (all-append (Among 7 15) first second (cond-safe 7 15 (isEmpty (shaped (depth code) b)) (matches (valuesDepth code) b v) [] (matches-safe (valuesDepth code) b v p) tt) (ranged-safe count (valuesDepth code) v p))
+    (all-append (Among 7 15) first second
+    (cond-safe 7 15 (isEmpty (shaped (depth code) b)) (matches (valuesDepth code) b v) [] (matches-safe (valuesDepth code) b v p) tt)
+    (ranged-safe count (valuesDepth code) v p))
 
 values-safe : (count code : ℕ) (b : Option Json) → Safe 7 15 (schema.values count code b)
 unfolding schema.values
@@ -336,8 +349,13 @@ semantics-safe : (code : ℕ) (b : Option Json) → Safe 7 15 (semantics code b)
 unfolding semantics
 semantics-safe code b v =
     let n = countIn (find "surfaces" v) in
-    all-safe 7 15 (objectKind ∷ needs ("surfaces" ∷ "values" ∷ []) ∷ at "surfaces" surfaces ∷ at "values" (schema.values n code b) ∷ [])
-    (object-safe, (needs-safe 7 15 tt ("surfaces" ∷ "values" ∷ []), (at-safe 7 15 "surfaces" surfaces surfaces-safe, (at-safe 7 15 "values" (schema.values n code b) (values-safe n code b), tt)))) v
+    all-safe 7 15 (objectKind ∷ needs ("surfaces" ∷ "values" ∷ []) ∷ at "surfaces" surfaces ∷ at "values" (schema.values n code b) ∷ []) (
+      object-safe,
+      (
+        needs-safe 7 15 tt ("surfaces" ∷ "values" ∷ []),
+        (at-safe 7 15 "surfaces" surfaces surfaces-safe, (at-safe 7 15 "values" (schema.values n code b) (values-safe n code b), tt)),
+      ),
+    ) v
 
 needs-lod-safe : Safe 7 15 needsLod
 unfolding needsLod
@@ -348,7 +366,9 @@ unfolding geometry
 geometry-safe n object v =
     let code = codeOf geometryWords (typeText v) in
     let b = find "boundaries" v in
-    all-safe 7 15 (objectKind ∷ needs ("type" ∷ "boundaries" ∷ []) ∷ needsLod ∷ at "type" (geometryType object code) ∷ at "lod" lod ∷ at "boundaries" (boundaries n code) ∷ at "semantics" (semantics code b) ∷ []) (
+    all-safe 7 15
+    (objectKind ∷ needs ("type" ∷ "boundaries" ∷ []) ∷ needsLod ∷ at "type" (geometryType object code) ∷ at "lod" lod ∷ at "boundaries" (boundaries n code)
+    ∷ at "semantics" (semantics code b) ∷ []) (
       object-safe,
       (
         needs-safe 7 15 tt ("type" ∷ "boundaries" ∷ []),
@@ -358,7 +378,10 @@ geometry-safe n object v =
             at-safe 7 15 "type" (geometryType object code) (geometry-type-safe object code),
             (
               at-safe 7 15 "lod" lod lod-safe,
-              (at-safe 7 15 "boundaries" (boundaries n code) (boundaries-safe n code), (at-safe 7 15 "semantics" (semantics code b) (semantics-safe code b), tt)),
+              (
+                at-safe 7 15 "boundaries" (boundaries n code) (boundaries-safe n code),
+                (at-safe 7 15 "semantics" (semantics code b) (semantics-safe code b), tt),
+              ),
             ),
           ),
         ),
@@ -367,7 +390,8 @@ geometry-safe n object v =
 
 geometries-safe : (n object : ℕ) → Safe 7 15 (geometries n object)
 unfolding geometries
-geometries-safe n object = all-safe 7 15 (arrayKind ∷ eachElement (geometry n object) ∷ []) (array-safe, (each-safe 7 15 (geometry n object) (geometry-safe n object), tt))
+geometries-safe n object =
+    all-safe 7 15 (arrayKind ∷ eachElement (geometry n object) ∷ []) (array-safe, (each-safe 7 15 (geometry n object) (geometry-safe n object), tt))
 
 ids-safe : Safe 7 15 schema.links
 unfolding schema.links
@@ -377,7 +401,9 @@ city-object-safe : (n : ℕ) → Safe 7 15 (cityObject n)
 unfolding cityObject
 city-object-safe n v =
     let code = codeOf objectWords (typeText v) in
-    all-safe 7 15 (objectKind ∷ needs ("type" ∷ []) ∷ at "type" objectType ∷ at "attributes" objectKind ∷ at "children" schema.links ∷ at "parents" schema.links ∷ at "geometry" (geometries n code) ∷ []) (
+    all-safe 7 15
+    (objectKind ∷ needs ("type" ∷ []) ∷ at "type" objectType ∷ at "attributes" objectKind ∷ at "children" schema.links ∷ at "parents" schema.links
+    ∷ at "geometry" (geometries n code) ∷ []) (
       object-safe,
       (
         needs-safe 7 15 tt ("type" ∷ []),
@@ -410,18 +436,26 @@ few-safe v p = name-fault-small (drop 1024 (members v)) (drop-placed 1024 (membe
 
 city-objects-safe : (n : ℕ) → Safe 7 15 (cityObjects n)
 unfolding cityObjects
-city-objects-safe n = all-safe 7 15 (objectKind ∷ objectLimit ∷ eachMember (cityObject n) ∷ []) (object-safe, (few-safe, (each-member-safe 7 15 (cityObject n) (city-object-safe n), tt)))
+city-objects-safe n =
+    all-safe 7 15 (objectKind ∷ objectLimit ∷ eachMember (cityObject n) ∷ [])
+    (object-safe, (few-safe, (each-member-safe 7 15 (cityObject n) (city-object-safe n), tt)))
 
 three-pairs-safe : Safe 7 15 threePairs
 unfolding threePairs
 three-pairs-safe =
-    all-safe 7 15 (arrayKind ∷ eachElement numberKind ∷ threeEntries ∷ eachElement pairRange ∷ []) (array-safe, (each-safe 7 15 numberKind number-safe, (three-safe, (each-safe 7 15 pairRange pair-safe, tt))))
+    all-safe 7 15 (arrayKind ∷ eachElement numberKind ∷ threeEntries ∷ eachElement pairRange ∷ [])
+    (array-safe, (each-safe 7 15 numberKind number-safe, (three-safe, (each-safe 7 15 pairRange pair-safe, tt))))
 
 transform-safe : Safe 7 15 transform
 unfolding transform
 transform-safe =
-    all-safe 7 15 (objectKind ∷ needs ("scale" ∷ "translate" ∷ []) ∷ at "scale" threePairs ∷ at "translate" threePairs ∷ [])
-    (object-safe, (needs-safe 7 15 tt ("scale" ∷ "translate" ∷ []), (at-safe 7 15 "scale" threePairs three-pairs-safe, (at-safe 7 15 "translate" threePairs three-pairs-safe, tt))))
+    all-safe 7 15 (objectKind ∷ needs ("scale" ∷ "translate" ∷ []) ∷ at "scale" threePairs ∷ at "translate" threePairs ∷ []) (
+      object-safe,
+      (
+        needs-safe 7 15 tt ("scale" ∷ "translate" ∷ []),
+        (at-safe 7 15 "scale" threePairs three-pairs-safe, (at-safe 7 15 "translate" threePairs three-pairs-safe, tt)),
+      ),
+    )
 
 vertices-safe : Safe 7 15 vertices
 unfolding vertices
@@ -432,7 +466,9 @@ unfolding cityJson word
 root-safe v =
     let n = countIn (find "vertices" v) in
     let names : List String = "type" ∷ "version" ∷ "transform" ∷ "CityObjects" ∷ "vertices" ∷ [] in
-    all-safe 7 15 (objectKind ∷ needs names ∷ at "type" (word "CityJSON") ∷ at "version" (word "2.0") ∷ at "transform" transform ∷ at "CityObjects" (cityObjects n) ∷ at "vertices" vertices ∷ []) (
+    all-safe 7 15
+    (objectKind ∷ needs names ∷ at "type" (word "CityJSON") ∷ at "version" (word "2.0") ∷ at "transform" transform ∷ at "CityObjects" (cityObjects n)
+    ∷ at "vertices" vertices ∷ []) (
       object-safe,
       (
         needs-safe 7 15 tt names,
@@ -440,7 +476,10 @@ root-safe v =
           at-safe 7 15 "type" (word "CityJSON") (word-safe (ascii "CityJSON")),
           (
             at-safe 7 15 "version" (word "2.0") (word-safe (ascii "2.0")),
-            (at-safe 7 15 "transform" transform transform-safe, (at-safe 7 15 "CityObjects" (cityObjects n) (city-objects-safe n), (at-safe 7 15 "vertices" vertices vertices-safe, tt))),
+            (
+              at-safe 7 15 "transform" transform transform-safe,
+              (at-safe 7 15 "CityObjects" (cityObjects n) (city-objects-safe n), (at-safe 7 15 "vertices" vertices vertices-safe, tt)),
+            ),
           ),
         ),
       ),
@@ -456,7 +495,8 @@ link-safe objects back id excused earlier s p =
     let answered = excused || among (idsIn back other) id in
     all-append (Among 15 18) (unless known 15 s) (unless answered 17 s) (unless-safe 15 18 known 15 tt s p) (unless-safe 15 18 answered 17 tt s p)
 
-links-small : (objects : List Member) (back : String) (id : List ℕ) (excused : Bool) (earlier : List (List ℕ)) (ss : List Json) → All Placed ss → All (Among 15 18) (linksFrom objects back id excused earlier ss)
+links-small : (objects : List Member) (back : String) (id : List ℕ) (excused : Bool) (earlier : List (List ℕ)) (ss : List Json) → All Placed ss
+    → All (Among 15 18) (linksFrom objects back id excused earlier ss)
 unfolding linksFrom
 links-small objects back id excused earlier [] a = tt
 links-small objects back id excused earlier (s ∷ ss) a =
@@ -492,7 +532,8 @@ object-links-small objects m p =
 all-links-small : (objects ms : List Member) → All PlacedMember ms → All (Among 15 18) (linksOfEach objects ms)
 unfolding linksOfEach
 all-links-small objects [] a = tt
-all-links-small objects (m ∷ ms) a = all-append (Among 15 18) (linksOf objects m) (linksOfEach objects ms) (object-links-small objects m (a .0)) (all-links-small objects ms (a .1))
+all-links-small objects (m ∷ ms) a =
+    all-append (Among 15 18) (linksOf objects m) (linksOfEach objects ms) (object-links-small objects m (a .0)) (all-links-small objects ms (a .1))
 
 pub links-safe : Safe 15 18 linkFaults
 unfolding linkFaults objectsOf membersIn PlacedIn
@@ -538,7 +579,8 @@ mutual
 
   strings-row : {vs : Items} {a b : ℕ} → Row vs a b → b ≤ 65536 → All PlacedName (stringsIn vs)
   strings-row (order.end h) k = tt
-  strings-row (order.next {v = v} {vs = vs} h s r) k = all-append PlacedName (strings v) (stringsIn vs) (strings-placed s (omega (arith, row-le r))) (strings-row r k)
+  strings-row (order.next {v = v} {vs = vs} h s r) k =
+      all-append PlacedName (strings v) (stringsIn vs) (strings-placed s (omega (arith, row-le r))) (strings-row r k)
 
   strings-rows : {ms : Members} {a b : ℕ} → Rows ms a b → b ≤ 65536 → All PlacedName (stringsOf ms)
   strings-rows (order.last h) k = tt
@@ -603,7 +645,8 @@ early-among v p =
     let a = map (fault 5) (rule5 v) in
     let b = map (fault 6) (rule6 v) in
     all-append (Among 5 15) (a ++ b) (cityJson v)
-    (all-append (Among 5 15) a b (wider 5 6 5 15 (omega arith) (omega arith) a (rule-among 5 6 5 tt (rule5 v) (rule5-low v p))) (wider 6 7 5 15 (omega arith) (omega arith) b (rule-among 6 7 6 tt (rule6 v) (rule6-spans (p .spans) (p .before)))))
+    (all-append (Among 5 15) a b (wider 5 6 5 15 (omega arith) (omega arith) a (rule-among 5 6 5 tt (rule5 v) (rule5-low v p)))
+    (wider 6 7 5 15 (omega arith) (omega arith) b (rule-among 6 7 6 tt (rule6 v) (rule6-spans (p .spans) (p .before)))))
     (wider 7 15 5 15 (omega arith) (omega arith) (cityJson v) (root-safe v p))
 
 -- a fault of a rule from 5 to 17
@@ -612,4 +655,6 @@ Small f = Among 5 18 f
 
 pub faults-small : (v : Json) → Placed v → All Small (faults v)
 unfolding faults
-faults-small v p = all-append (Among 5 18) (early v) (linkFaults v) (wider 5 15 5 18 (omega arith) (omega arith) (early v) (early-among v p)) (wider 15 18 5 18 (omega arith) (omega arith) (linkFaults v) (links-safe v p))
+faults-small v p =
+    all-append (Among 5 18) (early v) (linkFaults v) (wider 5 15 5 18 (omega arith) (omega arith) (early v) (early-among v p))
+    (wider 15 18 5 18 (omega arith) (omega arith) (linkFaults v) (links-safe v p))

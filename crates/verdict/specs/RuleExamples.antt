@@ -18,18 +18,70 @@ use Rattle.verdict.specs.Examples.{judges}
 -- ---- texts around a part
 
 -- a text with one vertex and the given value of `CityObjects`; the part starts at byte 120
-unfoldable withObjects : String → List ℕ
+unfoldable aroundObjects : List ℕ → List ℕ
 unfolding ascii
-withObjects part =
+aroundObjects part =
     ascii "{\"type\":\"CityJSON\",\"version\":\"2.0\",\"transform\":{\"scale\":[1,1,1],\"translate\":[0,0,0]},\"vertices\":[[0,0,0]],\"CityObjects\":"
-    ++ (ascii part ++ ascii "}")
+    ++ (part ++ ascii "}")
+
+unfoldable withObjects : String → List ℕ
+unfolding ascii aroundObjects
+withObjects part = aroundObjects (ascii part)
 
 -- a text with two vertices, whose one object, of a type that may have any geometry, has the given geometries; the part starts at byte 170
-unfoldable withGeometries : String → List ℕ
+unfoldable aroundGeometries : List ℕ → List ℕ
 unfolding ascii
-withGeometries part =
-    ascii "{\"type\":\"CityJSON\",\"version\":\"2.0\",\"transform\":{\"scale\":[1,1,1],\"translate\":[0,0,0]},\"vertices\":[[0,0,0],[1,1,1]],\"CityObjects\":{\"a1\":{\"type\":\"CityFurniture\",\"geometry\":["
-    ++ (ascii part ++ ascii "]}}}")
+aroundGeometries part =
+    ascii "{\"type\":\"CityJSON\",\"version\":\"2.0\",\"transform\":{\"scale\":[1,1,1],\"translate\":[0,0,0]},"
+    ++ (ascii "\"vertices\":[[0,0,0],[1,1,1]],\"CityObjects\":{\"a1\":{\"type\":\"CityFurniture\",\"geometry\":["
+    ++ (part ++ ascii "]}}}"))
+
+unfoldable withGeometries : String → List ℕ
+unfolding ascii aroundGeometries
+withGeometries part = aroundGeometries (ascii part)
+
+-- a geometry of a type, with a boundary
+unfoldable geometry : String → String → List ℕ
+unfolding ascii
+geometry kind boundary =
+    ascii "{\"type\":\"" ++ (ascii kind ++ (ascii "\",\"lod\":\"1\",\"boundaries\":" ++ (ascii boundary ++ ascii "}")))
+
+-- some geometries in a row
+unfoldable row : List (List ℕ) → List ℕ
+unfolding ascii
+row [] = []
+row (g ∷ []) = g
+row (g ∷ h ∷ gs) = g ++ (ascii "," ++ row (h ∷ gs))
+
+-- a geometry of a type, with a boundary, one surface and values
+unfoldable withValues : String → String → String → List ℕ
+unfolding ascii aroundGeometries
+withValues kind boundary values =
+    aroundGeometries
+    (ascii "{\"type\":\"" ++ (ascii kind ++ (ascii "\",\"lod\":\"1\",\"boundaries\":" ++ (ascii boundary
+    ++ (ascii ",\"semantics\":{\"surfaces\":[{\"type\":\"Window\"}],\"values\":" ++ (ascii values ++ ascii "}}"))))))
+
+-- a MultiPoint of one point, whose value is the first of some surfaces; the part starts at byte 243
+unfoldable withSurfaces : String → List ℕ
+unfolding ascii aroundGeometries
+withSurfaces part =
+    aroundGeometries
+    (ascii "{\"type\":\"MultiPoint\",\"lod\":\"1\",\"boundaries\":[0],\"semantics\":{\"surfaces\":[" ++ (ascii part ++ ascii "],\"values\":[0]}}"))
+
+-- an object of a type, with empty geometries of two types
+unfoldable withTwo : String → String → String → List ℕ
+unfolding ascii aroundObjects geometry row
+withTwo object one two =
+    aroundObjects
+    (ascii "{\"a\":{\"type\":\"" ++ (ascii object ++ (ascii "\",\"geometry\":["
+    ++ (row (geometry one "[]" ∷ geometry two "[]" ∷ []) ++ ascii "]}}"))))
+
+-- a text with no object and no vertex, with the given `type` and `version` of the root
+unfoldable withRoot : String → String → List ℕ
+unfolding ascii
+withRoot kind version =
+    ascii "{\"type\":\"" ++ (ascii kind ++ (ascii "\",\"version\":\"" ++ (ascii version
+    ++ ascii "\",\"transform\":{\"scale\":[1,1,1],\"translate\":[0,0,0]},\"CityObjects\":{},\"vertices\":[]}")))
 
 -- a text with no object and no vertex, with the given value of `transform`; the part starts at byte 80
 unfoldable withTransform : String → List ℕ
@@ -52,7 +104,7 @@ abbrev Example : Type 0
 Example = List ℕ × Verdict
 
 unfoldable examples : List Example
-unfolding ascii withObjects withGeometries withTransform withVertices
+unfolding ascii aroundObjects withObjects aroundGeometries withGeometries geometry row withValues withSurfaces withTwo withRoot withTransform withVertices
 examples =
     -- the texts around the parts break no rule themselves
     -- no object
@@ -96,13 +148,13 @@ examples =
     -- rule 7: `semantics` is an object
     ∷ (withGeometries "{\"type\":\"MultiPoint\",\"lod\":\"1\",\"boundaries\":[0],\"semantics\":null}", refused 7 230)
     -- rule 7: a surface is an object
-    ∷ (withGeometries "{\"type\":\"MultiPoint\",\"lod\":\"1\",\"boundaries\":[0],\"semantics\":{\"surfaces\":[\"Window\"],\"values\":[0]}}", refused 7 243)
+    ∷ (withSurfaces "\"Window\"", refused 7 243)
     -- rule 7: `values` is an array
-    ∷ (withGeometries "{\"type\":\"MultiPoint\",\"lod\":\"1\",\"boundaries\":[0],\"semantics\":{\"surfaces\":[{\"type\":\"Window\"}],\"values\":null}}", refused 7 271)
+    ∷ (withValues "MultiPoint" "[0]" "null", refused 7 271)
     -- rule 7: a name counts only in the object it belongs to
     ∷ (withObjects "{\"a\":{\"type\":\"Road\",\"scale\":0,\"lod\":0,\"attributes\":{\"type\":0}}}", accepted 1)
     -- rule 7: `children` and `parent` of a surface are unexamined
-    ∷ (withGeometries "{\"type\":\"MultiPoint\",\"lod\":\"1\",\"boundaries\":[0],\"semantics\":{\"surfaces\":[{\"type\":\"Door\",\"children\":0,\"parent\":\"x\"}],\"values\":[0]}}", accepted 1)
+    ∷ (withSurfaces "{\"type\":\"Door\",\"children\":0,\"parent\":\"x\"}", accepted 1)
     -- rule 8: the root has no `vertices`
     ∷ (ascii " {\"type\":\"\",\"version\":\"\",\"transform\":{},\"CityObjects\":{}}", refused 8 1)
     -- rule 8: `transform` has no `translate`
@@ -120,15 +172,15 @@ examples =
     -- rule 8: `semantics` has no `values`
     ∷ (withGeometries "{\"type\":\"MultiPoint\",\"lod\":\"1\",\"boundaries\":[0],\"semantics\":{\"surfaces\":[]}}", refused 8 230)
     -- rule 8: a surface has no `type`
-    ∷ (withGeometries "{\"type\":\"MultiPoint\",\"lod\":\"1\",\"boundaries\":[0],\"semantics\":{\"surfaces\":[{\"type\":\"Door\"},{}],\"values\":[0]}}", refused 8 259)
+    ∷ (withSurfaces "{\"type\":\"Door\"},{}", refused 8 259)
     -- rule 8: a name counts only in the object it belongs to
     ∷ (withGeometries "{\"lod\":\"1\",\"boundaries\":[0],\"texture\":{\"type\":\"MultiPoint\"}}", refused 8 170)
     -- rule 10: the root's `type` is `CityJSON`
-    ∷ (ascii "{\"type\":\"CityJSONFeature\",\"version\":\"2.0\",\"transform\":{\"scale\":[1,1,1],\"translate\":[0,0,0]},\"CityObjects\":{},\"vertices\":[]}", refused 10 8)
+    ∷ (withRoot "CityJSONFeature" "2.0", refused 10 8)
     -- rule 10: `version` is `2.0`
-    ∷ (ascii "{\"type\":\"CityJSON\",\"version\":\"2.0.1\",\"transform\":{\"scale\":[1,1,1],\"translate\":[0,0,0]},\"CityObjects\":{},\"vertices\":[]}", refused 10 29)
+    ∷ (withRoot "CityJSON" "2.0.1", refused 10 29)
     -- rule 10: a word is compared after its escapes are decoded
-    ∷ (ascii "{\"type\":\"\\u0043ityJSON\",\"version\":\"2\\u002e0\",\"transform\":{\"scale\":[1,1,1],\"translate\":[0,0,0]},\"CityObjects\":{},\"vertices\":[]}", accepted 0)
+    ∷ (withRoot "\\u0043ityJSON" "2\\u002e0", accepted 0)
     -- rule 10: an object type has its capital letters
     ∷ (withObjects "{\"a\":{\"type\":\"road\"}}", refused 10 133)
     -- rule 10: an object type is not empty
@@ -150,11 +202,11 @@ examples =
     -- rule 10: `lod`, the mark between the digits is a point
     ∷ (withGeometries "{\"type\":\"MultiPoint\",\"lod\":\"2,1\",\"boundaries\":[0]}", refused 10 197)
     -- rule 10: a surface type is one of the list
-    ∷ (withGeometries "{\"type\":\"MultiPoint\",\"lod\":\"1\",\"boundaries\":[0],\"semantics\":{\"surfaces\":[{\"type\":\"Roof\"}],\"values\":[0]}}", refused 10 251)
+    ∷ (withSurfaces "{\"type\":\"Roof\"}", refused 10 251)
     -- rule 10: a surface type may be `+` and one more byte
-    ∷ (withGeometries "{\"type\":\"MultiPoint\",\"lod\":\"1\",\"boundaries\":[0],\"semantics\":{\"surfaces\":[{\"type\":\"+a\"}],\"values\":[0]}}", accepted 1)
+    ∷ (withSurfaces "{\"type\":\"+a\"}", accepted 1)
     -- rule 10: a surface type is not `+` alone
-    ∷ (withGeometries "{\"type\":\"MultiPoint\",\"lod\":\"1\",\"boundaries\":[0],\"semantics\":{\"surfaces\":[{\"type\":\"+\"}],\"values\":[0]}}", refused 10 251)
+    ∷ (withSurfaces "{\"type\":\"+\"}", refused 10 251)
     -- rule 11: `GeometryInstance`
     ∷ (withGeometries "{\"type\":\"GeometryInstance\",\"template\":0,\"boundaries\":[0]}", refused 11 178)
     -- rule 11: `GeometryInstance` with a `lod` and a boundary of a wrong shape
@@ -192,44 +244,56 @@ examples =
     -- rule 12: an index is not null
     ∷ (withGeometries "{\"type\":\"Solid\",\"lod\":\"1\",\"boundaries\":[[[[null]]]]}", refused 12 213)
     -- rule 12: the depths of all geometry types
-    ∷ (withGeometries "{\"type\":\"MultiPoint\",\"lod\":\"1\",\"boundaries\":[0]},{\"type\":\"MultiLineString\",\"lod\":\"1\",\"boundaries\":[[0]]},{\"type\":\"MultiSurface\",\"lod\":\"1\",\"boundaries\":[[[0]]]},{\"type\":\"CompositeSurface\",\"lod\":\"1\",\"boundaries\":[[[0]]]},{\"type\":\"Solid\",\"lod\":\"1\",\"boundaries\":[[[[0]]]]},{\"type\":\"MultiSolid\",\"lod\":\"1\",\"boundaries\":[[[[[0]]]]]},{\"type\":\"CompositeSolid\",\"lod\":\"1\",\"boundaries\":[[[[[0]]]]]}", accepted 1)
+    ∷ (
+      aroundGeometries
+          (row
+          (geometry "MultiPoint" "[0]" ∷ geometry "MultiLineString" "[[0]]" ∷ geometry "MultiSurface" "[[[0]]]" ∷ geometry "CompositeSurface" "[[[0]]]"
+          ∷ geometry "Solid" "[[[[0]]]]" ∷ geometry "MultiSolid" "[[[[[0]]]]]" ∷ geometry "CompositeSolid" "[[[[[0]]]]]" ∷ [])),
+      accepted 1,
+    )
     -- rule 12: empty arrays are permitted at each level
-    ∷ (withGeometries "{\"type\":\"MultiPoint\",\"lod\":\"1\",\"boundaries\":[]},{\"type\":\"Solid\",\"lod\":\"1\",\"boundaries\":[[],[[]],[[[]]]]},{\"type\":\"MultiSolid\",\"lod\":\"1\",\"boundaries\":[[[[]]]]}", accepted 1)
+    ∷ (
+      aroundGeometries (row (geometry "MultiPoint" "[]" ∷ geometry "Solid" "[[],[[]],[[[]]]]" ∷ geometry "MultiSolid" "[[[[]]]]" ∷ [])),
+      accepted 1,
+    )
     -- rule 12: `values` at each depth
     -- rule 12: values of depth 1, one too many
-    ∷ (withGeometries "{\"type\":\"MultiPoint\",\"lod\":\"1\",\"boundaries\":[0,1],\"semantics\":{\"surfaces\":[{\"type\":\"Window\"}],\"values\":[0,0,0]}}", refused 12 273)
+    ∷ (withValues "MultiPoint" "[0,1]" "[0,0,0]", refused 12 273)
     -- rule 12: values of depth 1, one too few
-    ∷ (withGeometries "{\"type\":\"MultiLineString\",\"lod\":\"1\",\"boundaries\":[[0],[1]],\"semantics\":{\"surfaces\":[{\"type\":\"Window\"}],\"values\":[0]}}", refused 12 282)
+    ∷ (withValues "MultiLineString" "[[0],[1]]" "[0]", refused 12 282)
     -- rule 12: values of depth 1 count the surfaces of a MultiSurface, not their rings
-    ∷ (withGeometries "{\"type\":\"MultiSurface\",\"lod\":\"1\",\"boundaries\":[[[0],[1]]],\"semantics\":{\"surfaces\":[{\"type\":\"Window\"}],\"values\":[0]}}", accepted 1)
+    ∷ (withValues "MultiSurface" "[[[0],[1]]]" "[0]", accepted 1)
     -- rule 12: values of depth 1 that count rings
-    ∷ (withGeometries "{\"type\":\"MultiSurface\",\"lod\":\"1\",\"boundaries\":[[[0],[1]]],\"semantics\":{\"surfaces\":[{\"type\":\"Window\"}],\"values\":[0,0]}}", refused 12 281)
+    ∷ (withValues "MultiSurface" "[[[0],[1]]]" "[0,0]", refused 12 281)
     -- rule 12: an array at the last level of values
-    ∷ (withGeometries "{\"type\":\"CompositeSurface\",\"lod\":\"1\",\"boundaries\":[[[0]]],\"semantics\":{\"surfaces\":[{\"type\":\"Window\"}],\"values\":[[0]]}}", refused 12 282)
+    ∷ (withValues "CompositeSurface" "[[[0]]]" "[[0]]", refused 12 282)
     -- rule 12: values of depth 2
-    ∷ (withGeometries "{\"type\":\"Solid\",\"lod\":\"1\",\"boundaries\":[[[[0]],[[1]]],[]],\"semantics\":{\"surfaces\":[{\"type\":\"Window\"}],\"values\":[[0,null],[]]}}", accepted 1)
+    ∷ (withValues "Solid" "[[[[0]],[[1]]],[]]" "[[0,null],[]]", accepted 1)
     -- rule 12: values of depth 2, a wrong count of shells
-    ∷ (withGeometries "{\"type\":\"Solid\",\"lod\":\"1\",\"boundaries\":[[[[0]]]],\"semantics\":{\"surfaces\":[{\"type\":\"Window\"}],\"values\":[[0],[0]]}}", refused 12 272)
+    ∷ (withValues "Solid" "[[[[0]]]]" "[[0],[0]]", refused 12 272)
     -- rule 12: values of depth 2, a wrong count in a shell
-    ∷ (withGeometries "{\"type\":\"Solid\",\"lod\":\"1\",\"boundaries\":[[[[0]]],[[[0]],[[1]]]],\"semantics\":{\"surfaces\":[{\"type\":\"Window\"}],\"values\":[[0],[0]]}}", refused 12 291)
+    ∷ (withValues "Solid" "[[[[0]]],[[[0]],[[1]]]]" "[[0],[0]]", refused 12 291)
     -- rule 12: a number above the last level of values
-    ∷ (withGeometries "{\"type\":\"Solid\",\"lod\":\"1\",\"boundaries\":[[[[0]]]],\"semantics\":{\"surfaces\":[{\"type\":\"Window\"}],\"values\":[0]}}", refused 12 273)
+    ∷ (withValues "Solid" "[[[[0]]]]" "[0]", refused 12 273)
     -- rule 12: null above the last level of values
-    ∷ (withGeometries "{\"type\":\"Solid\",\"lod\":\"1\",\"boundaries\":[[[[0]]]],\"semantics\":{\"surfaces\":[{\"type\":\"Window\"}],\"values\":[null]}}", refused 12 273)
+    ∷ (withValues "Solid" "[[[[0]]]]" "[null]", refused 12 273)
     -- rule 12: values of depth 3
-    ∷ (withGeometries "{\"type\":\"CompositeSolid\",\"lod\":\"1\",\"boundaries\":[[[[[0]]]],[]],\"semantics\":{\"surfaces\":[{\"type\":\"Window\"}],\"values\":[[[0]],[]]}}", accepted 1)
+    ∷ (withValues "CompositeSolid" "[[[[[0]]]],[]]" "[[[0]],[]]", accepted 1)
     -- rule 12: values of depth 3, a wrong count of solids
-    ∷ (withGeometries "{\"type\":\"CompositeSolid\",\"lod\":\"1\",\"boundaries\":[[[[[0]]]]],\"semantics\":{\"surfaces\":[{\"type\":\"Window\"}],\"values\":[]}}", refused 12 283)
+    ∷ (withValues "CompositeSolid" "[[[[[0]]]]]" "[]", refused 12 283)
     -- rule 12: values of depth 3, a wrong count of shells
-    ∷ (withGeometries "{\"type\":\"MultiSolid\",\"lod\":\"1\",\"boundaries\":[[[[[0]]]]],\"semantics\":{\"surfaces\":[{\"type\":\"Window\"}],\"values\":[[]]}}", refused 12 280)
+    ∷ (withValues "MultiSolid" "[[[[[0]]]]]" "[[]]", refused 12 280)
     -- rule 12: values of depth 3, a wrong count in a shell
-    ∷ (withGeometries "{\"type\":\"MultiSolid\",\"lod\":\"1\",\"boundaries\":[[[[[0]]]]],\"semantics\":{\"surfaces\":[{\"type\":\"Window\"}],\"values\":[[[0,0]]]}}", refused 12 281)
+    ∷ (withValues "MultiSolid" "[[[[[0]]]]]" "[[[0,0]]]", refused 12 281)
     -- rule 12: a string at the last level of values
-    ∷ (withGeometries "{\"type\":\"MultiPoint\",\"lod\":\"1\",\"boundaries\":[0],\"semantics\":{\"surfaces\":[{\"type\":\"Window\"}],\"values\":[\"0\"]}}", refused 12 272)
+    ∷ (withValues "MultiPoint" "[0]" "[\"0\"]", refused 12 272)
     -- rule 12: a value has no fraction
-    ∷ (withGeometries "{\"type\":\"MultiPoint\",\"lod\":\"1\",\"boundaries\":[0],\"semantics\":{\"surfaces\":[{\"type\":\"Window\"}],\"values\":[0.0]}}", refused 12 272)
+    ∷ (withValues "MultiPoint" "[0]" "[0.0]", refused 12 272)
     -- rule 12: values are not judged if the boundary has a wrong shape
-    ∷ (withGeometries "{\"semantics\":{\"values\":[0,0,0],\"surfaces\":[{\"type\":\"Window\"}]},\"type\":\"MultiPoint\",\"lod\":\"1\",\"boundaries\":[\"x\"]}", refused 12 277)
+    ∷ (
+      withGeometries "{\"semantics\":{\"values\":[0,0,0],\"surfaces\":[{\"type\":\"Window\"}]},\"type\":\"MultiPoint\",\"lod\":\"1\",\"boundaries\":[\"x\"]}",
+      refused 12 277,
+    )
     -- rule 13: the greatest 32-bit integer
     ∷ (withVertices "[[2147483647,0,0]]", accepted 0)
     -- rule 13: one more
@@ -251,11 +315,11 @@ examples =
     -- rule 13: an index that 64 bits do not hold
     ∷ (withGeometries "{\"type\":\"MultiPoint\",\"lod\":\"1\",\"boundaries\":[18446744073709551616]}", refused 13 215)
     -- rule 13: -0 is the semantic value 0
-    ∷ (withGeometries "{\"type\":\"MultiPoint\",\"lod\":\"1\",\"boundaries\":[0],\"semantics\":{\"surfaces\":[{\"type\":\"Window\"}],\"values\":[-0]}}", accepted 1)
+    ∷ (withValues "MultiPoint" "[0]" "[-0]", accepted 1)
     -- rule 13: -1 is not null
-    ∷ (withGeometries "{\"type\":\"MultiPoint\",\"lod\":\"1\",\"boundaries\":[0],\"semantics\":{\"surfaces\":[{\"type\":\"Window\"}],\"values\":[-1]}}", refused 13 272)
+    ∷ (withValues "MultiPoint" "[0]" "[-1]", refused 13 272)
     -- rule 13: a semantic value is below the surface count
-    ∷ (withGeometries "{\"type\":\"MultiPoint\",\"lod\":\"1\",\"boundaries\":[0,1],\"semantics\":{\"surfaces\":[{\"type\":\"Window\"}],\"values\":[0,1]}}", refused 13 276)
+    ∷ (withValues "MultiPoint" "[0,1]" "[0,1]", refused 13 276)
     -- rule 13: no surfaces, so that null alone is in range
     ∷ (withGeometries "{\"type\":\"MultiPoint\",\"lod\":\"1\",\"boundaries\":[0,1],\"semantics\":{\"surfaces\":[],\"values\":[null,0]}}", refused 13 262)
     -- rule 13: e is 22
@@ -277,15 +341,15 @@ examples =
     -- rule 14: LandUse has no Solid
     ∷ (withObjects "{\"a\":{\"type\":\"LandUse\",\"geometry\":[{\"type\":\"Solid\",\"lod\":\"1\",\"boundaries\":[]}]}}", refused 14 163)
     -- rule 14: Building has no MultiSolid
-    ∷ (withObjects "{\"a\":{\"type\":\"Building\",\"geometry\":[{\"type\":\"CompositeSolid\",\"lod\":\"1\",\"boundaries\":[]},{\"type\":\"MultiSolid\",\"lod\":\"1\",\"boundaries\":[]}]}}", refused 14 216)
+    ∷ (withTwo "Building" "CompositeSolid" "MultiSolid", refused 14 216)
     -- rule 14: GenericCityObject has all but MultiSolid
-    ∷ (withObjects "{\"a\":{\"type\":\"GenericCityObject\",\"geometry\":[{\"type\":\"MultiPoint\",\"lod\":\"1\",\"boundaries\":[]},{\"type\":\"MultiSolid\",\"lod\":\"1\",\"boundaries\":[]}]}}", refused 14 221)
+    ∷ (withTwo "GenericCityObject" "MultiPoint" "MultiSolid", refused 14 221)
     -- rule 14: TINRelief has a CompositeSurface alone
-    ∷ (withObjects "{\"a\":{\"type\":\"TINRelief\",\"geometry\":[{\"type\":\"CompositeSurface\",\"lod\":\"1\",\"boundaries\":[]},{\"type\":\"MultiSurface\",\"lod\":\"1\",\"boundaries\":[]}]}}", refused 14 219)
+    ∷ (withTwo "TINRelief" "CompositeSurface" "MultiSurface", refused 14 219)
     -- rule 14: WaterBody has no MultiPoint
-    ∷ (withObjects "{\"a\":{\"type\":\"WaterBody\",\"geometry\":[{\"type\":\"MultiLineString\",\"lod\":\"1\",\"boundaries\":[]},{\"type\":\"MultiPoint\",\"lod\":\"1\",\"boundaries\":[]}]}}", refused 14 218)
+    ∷ (withTwo "WaterBody" "MultiLineString" "MultiPoint", refused 14 218)
     -- rule 14: PlantCover has no MultiLineString
-    ∷ (withObjects "{\"a\":{\"type\":\"PlantCover\",\"geometry\":[{\"type\":\"MultiSolid\",\"lod\":\"1\",\"boundaries\":[]},{\"type\":\"MultiLineString\",\"lod\":\"1\",\"boundaries\":[]}]}}", refused 14 214)
+    ∷ (withTwo "PlantCover" "MultiSolid" "MultiLineString", refused 14 214)
     -- rule 14: the object's type may come after its geometry
     ∷ (withObjects "{\"a\":{\"geometry\":[{\"type\":\"MultiPoint\",\"lod\":\"1\",\"boundaries\":[0]}],\"type\":\"Bridge\"}}", refused 14 146)
     -- rule 14 comes after rule 13
@@ -323,7 +387,12 @@ examples =
     -- rule 17: a listed parent does not list the object as child
     ∷ (withObjects "{\"a\":{\"type\":\"Building\"},\"b\":{\"type\":\"BuildingPart\",\"parents\":[\"a\"]}}", refused 17 183)
     -- rule 17: a listed child lists another parent alone
-    ∷ (withObjects "{\"a\":{\"type\":\"Road\",\"children\":[\"c\"]},\"b\":{\"type\":\"Road\",\"children\":[\"c\"]},\"c\":{\"type\":\"Road\",\"parents\":[\"b\"]}}", refused 17 152)
+    ∷ (
+      aroundObjects
+          (ascii "{\"a\":{\"type\":\"Road\",\"children\":[\"c\"]},\"b\":{\"type\":\"Road\",\"children\":[\"c\"]},"
+          ++ ascii "\"c\":{\"type\":\"Road\",\"parents\":[\"b\"]}}"),
+      refused 17 152,
+    )
     -- rule 17: a listed child that lists the object as child, not as parent
     ∷ (withObjects "{\"a\":{\"type\":\"Road\",\"children\":[\"b\"]},\"b\":{\"type\":\"Road\",\"children\":[\"a\"]}}", refused 17 152)
     -- rule 17: a child of a group need not list it as parent
@@ -336,17 +405,36 @@ examples =
     ∷ (withObjects "{\"a\":{\"children\":[\"b\"],\"ty\\u0070e\":\"CityObject\\u0047roup\"},\"b\":{\"type\":\"Road\"}}", accepted 2)
     -- members in another order
     -- the members of the root and of `transform` in another order
-    ∷ (ascii "{\"vertices\":[],\"CityObjects\":{},\"transform\":{\"translate\":[0,0,0],\"scale\":[1,1,1]},\"version\":\"2.0\",\"type\":\"CityJSON\"}", accepted 0)
+    ∷ (
+      ascii "{\"vertices\":[],\"CityObjects\":{},\"transform\":{\"translate\":[0,0,0],\"scale\":[1,1,1]},\"version\":\"2.0\",\"type\":\"CityJSON\"}",
+      accepted 0,
+    )
     -- the vertex count is that of `vertices`, wherever it stands
-    ∷ (ascii "{\"CityObjects\":{\"a\":{\"geometry\":[{\"boundaries\":[0,1],\"lod\":\"1\",\"type\":\"MultiPoint\"}],\"type\":\"Road\"}},\"vertices\":[[0,0,0]],\"transform\":{\"translate\":[0,0,0],\"scale\":[1,1,1]},\"version\":\"2.0\",\"type\":\"CityJSON\"}", refused 13 50)
+    ∷ (
+      ascii "{\"CityObjects\":{\"a\":{\"geometry\":[{\"boundaries\":[0,1],\"lod\":\"1\",\"type\":\"MultiPoint\"}],\"type\":\"Road\"}},"
+          ++ ascii "\"vertices\":[[0,0,0]],\"transform\":{\"translate\":[0,0,0],\"scale\":[1,1,1]},\"version\":\"2.0\",\"type\":\"CityJSON\"}",
+      refused 13 50,
+    )
     -- a geometry's members, order 1
-    ∷ (withGeometries "{\"type\":\"Solid\",\"lod\":\"1\",\"boundaries\":[[[[0]]]],\"semantics\":{\"surfaces\":[{\"type\":\"Window\"}],\"values\":[[0]]}}", accepted 1)
+    ∷ (
+      withGeometries "{\"type\":\"Solid\",\"lod\":\"1\",\"boundaries\":[[[[0]]]],\"semantics\":{\"surfaces\":[{\"type\":\"Window\"}],\"values\":[[0]]}}",
+      accepted 1,
+    )
     -- a geometry's members, order 2
-    ∷ (withGeometries "{\"semantics\":{\"values\":[[0]],\"surfaces\":[{\"type\":\"Window\"}]},\"boundaries\":[[[[0]]]],\"lod\":\"1\",\"type\":\"Solid\"}", accepted 1)
+    ∷ (
+      withGeometries "{\"semantics\":{\"values\":[[0]],\"surfaces\":[{\"type\":\"Window\"}]},\"boundaries\":[[[[0]]]],\"lod\":\"1\",\"type\":\"Solid\"}",
+      accepted 1,
+    )
     -- a geometry's members, order 3
-    ∷ (withGeometries "{\"lod\":\"1\",\"semantics\":{\"surfaces\":[{\"type\":\"Window\"}],\"values\":[[0]]},\"type\":\"Solid\",\"boundaries\":[[[[0]]]]}", accepted 1)
+    ∷ (
+      withGeometries "{\"lod\":\"1\",\"semantics\":{\"surfaces\":[{\"type\":\"Window\"}],\"values\":[[0]]},\"type\":\"Solid\",\"boundaries\":[[[[0]]]]}",
+      accepted 1,
+    )
     -- rule 13: the surface count is that of `surfaces`, wherever it stands
-    ∷ (withGeometries "{\"type\":\"MultiPoint\",\"lod\":\"1\",\"boundaries\":[0],\"semantics\":{\"values\":[1],\"surfaces\":[{\"type\":\"Window\"}]}}", refused 13 241)
+    ∷ (
+      withGeometries "{\"type\":\"MultiPoint\",\"lod\":\"1\",\"boundaries\":[0],\"semantics\":{\"values\":[1],\"surfaces\":[{\"type\":\"Window\"}]}}",
+      refused 13 241,
+    )
     -- rule 16: the same place with the members in one order
     ∷ (withObjects "{\"a\":{\"type\":\"BuildingPart\",\"attributes\":{},\"children\":[],\"parents\":[],\"geometry\":[]}}", refused 16 125)
     -- rule 16: and in another
@@ -372,13 +460,16 @@ all-examples = refl
 unfoldable digits : ℕ → List ℕ
 digits i = (48 + i / 1000 % 10) ∷ (48 + i / 100 % 10) ∷ (48 + i / 10 % 10) ∷ (48 + i % 10) ∷ []
 
--- so many members `"dddd":{"type":"Road"}`, whose names have the digits of i and the numbers after it: the name of 0 stands at 121, and each next one 23 bytes later
+-- so many members `"dddd":{"type":"Road"}`, whose names have the digits of i and the numbers after it:
+-- the name of 0 stands at 121, and each next one 23 bytes later
 unfoldable roadMembers : ℕ → ℕ → Members
 unfolding ascii digits
 roadMembers zero i = empty
 roadMembers (suc n) i =
     let p = 121 + 23 * i in
-    member (record { place = p; end = p + 6; raw = digits i }) (obj (p + 7) (p + 22) (member (record { place = p + 8; end = p + 14; raw = ascii "type" }) (str (p + 15) (p + 21) (ascii "Road")) empty)) (roadMembers n (i + 1))
+    member (record { place = p; end = p + 6; raw = digits i })
+    (obj (p + 7) (p + 22) (member (record { place = p + 8; end = p + 14; raw = ascii "type" }) (str (p + 15) (p + 21) (ascii "Road")) empty))
+    (roadMembers n (i + 1))
 
 -- three equal numbers of one digit, as an array that starts at p
 unfoldable triple : ℕ → ℕ → Json
@@ -398,8 +489,8 @@ manyRoads n =
     (member (record { place = 106; end = 119; raw = ascii "CityObjects" }) (obj 120 (23 * n + 121) (roadMembers n 0)) empty)))))
 
 -- a text with three roads is read as that tree
-three-roads : read (ascii "{\"type\":\"CityJSON\",\"version\":\"2.0\",\"transform\":{\"scale\":[1,1,1],\"translate\":[0,0,0]},\"vertices\":[[0,0,0]],\"CityObjects\":{\"0000\":{\"type\":\"Road\"},\"0001\":{\"type\":\"Road\"},\"0002\":{\"type\":\"Road\"}}}") ≡ reads (manyRoads 3)
-unfolding judges manyRoads
+three-roads : read (withObjects "{\"0000\":{\"type\":\"Road\"},\"0001\":{\"type\":\"Road\"},\"0002\":{\"type\":\"Road\"}}") ≡ reads (manyRoads 3)
+unfolding judges withObjects manyRoads
 three-roads = refl
 
 -- the verdict of a tree by rules 5 and 7 to 17: rule 6 is left out, since computing it for so many names takes long

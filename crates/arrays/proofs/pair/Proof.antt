@@ -5,15 +5,5 @@ use Rattle.arrays.proofs.pair.Tie as tie
 
 pub pair-spec : {M : Type 1} → statement M
 pair-spec =
-    tie.close
-    (tie.spec
-    (λ c κs. search arrays)
-    (λ c. search arrays)
-    (λ c κs. search arrays)
-    (λ c κs. search arrays)
-    (λ c κs. search arrays)
-    (λ c κs. search arrays)
-    (λ c. search arrays)
-    (λ c. search arrays)
-    (λ c. search arrays)
-    (λ c. search arrays))
+    tie.close (tie.spec (λ c κs. search arrays) (λ c. search arrays) (λ c κs. search arrays) (λ c κs. search arrays) (λ c κs. search arrays)
+    (λ c κs. search arrays) (λ c. search arrays) (λ c. search arrays) (λ c. search arrays) (λ c. search arrays))

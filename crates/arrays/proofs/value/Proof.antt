@@ -4,4 +4,6 @@ use Rattle.arrays.proofs.value.Statement.{statement}
 use Rattle.arrays.proofs.value.Tie as tie
 
 pub value-spec : {M : Type 1} → statement M
-value-spec = tie.close (tie.spec (λ c κs. search arrays) (λ c κs. search arrays) (λ c. search arrays) (λ c. search arrays) (λ c κs. search arrays) (λ c. search arrays) (λ c. search arrays))
+value-spec =
+    tie.close (tie.spec (λ c κs. search arrays) (λ c κs. search arrays) (λ c. search arrays) (λ c. search arrays) (λ c κs. search arrays)
+    (λ c. search arrays) (λ c. search arrays))

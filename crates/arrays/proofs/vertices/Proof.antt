@@ -4,7 +4,7 @@ use Rattle.model.specs.Code.{signed}
 use Rattle.model.specs.Model.{layThree}
 use Rattle.model.specs.Read.{integerOf, threeOf}
 use Rattle.arrays.specs.Fits.{Coordinate, Triple}
-use Rattle.arrays.specs.Laws.{Laying, laying-none, laying-room, laying-done}
+use Rattle.arrays.specs.Laws.{Laying, laying-done}
 use Rattle.arrays.proofs.Rules.{arrays}
 use Rattle.arrays.proofs.vertices.Statement.{statement}
 use Rattle.arrays.proofs.vertices.Tie as tie
@@ -16,13 +16,9 @@ abbrev μ-loop : tie.MeasureT-loop
 μ-loop text table i sheet₀ at n o₀ k₀ sheet o k = n - k
 
 returns : tie.Need-returns Inv-loop μ-loop
-returns c = laying-none (λ w. layThree (signed 4) (threeOf integerOf w)) (c .before .is-array .ensures) (c .if1 .taken)
-
-next-requires-2 : tie.Need-next-requires-2 Inv-loop μ-loop
-next-requires-2 c κs = laying-room (c .before .before .before .before .before .loop .inv) (c .before .before .before .before .loop-test .taken)
-
-returns-2 : tie.Need-returns-2 Inv-loop μ-loop
-returns-2 c = laying-done (c .before .loop .inv) (c .loop-test .left)
+returns c = laying-done (c .before .loop .inv) (c .loop-test .left)
 
 pub vertices-spec : {M : Type 1} → statement M
-vertices-spec = tie.close (tie.spec Inv-loop μ-loop (λ c κs. search arrays) returns (λ c κs. search arrays) (λ c. search arrays) (λ c. search arrays) (λ c κs. search arrays) next-requires-2 (λ c. search arrays) (λ c. search arrays) (λ c. search arrays) returns-2)
+vertices-spec =
+    tie.close (tie.spec Inv-loop μ-loop (λ c κs. search arrays) (λ c. search arrays) (λ c. search arrays) (λ c κs. search arrays)
+    (λ c κs. search arrays) (λ c. search arrays) (λ c. search arrays) (λ c. search arrays) returns)

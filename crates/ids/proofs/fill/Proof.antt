@@ -4,10 +4,10 @@ use Rattle.ids.proofs.fill.Statement.{statement}
 use Rattle.ids.proofs.fill.Tie as tie
 
 abbrev Inv-loop : tie.InvT-loop
-Inv-loop text table offsets count heads₀ nexts₀ k₀ heads nexts k = Filling text table offsets count nexts₀ heads nexts k
+Inv-loop text table offsets heads₀ nexts₀ k₀ heads nexts k = Filling text table offsets nexts₀ heads nexts k
 
 abbrev μ-loop : tie.MeasureT-loop
-μ-loop text table offsets count heads₀ nexts₀ k₀ heads nexts k = k
+μ-loop text table offsets heads₀ nexts₀ k₀ heads nexts k = k
 
 pub fill-spec : {M : Type 1} → statement M
 fill-spec =

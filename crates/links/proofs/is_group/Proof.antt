@@ -2,7 +2,7 @@
 use mathlib.Core.Path.{refl}
 use Rattle.utf8.specs.Ascii.{ascii}
 use Rattle.shapes.specs.Laws.{seeks-find}
-use Rattle.links.proofs.Rules.{sweeping}
+use Rattle.links.proofs.Rules.{linking}
 use Rattle.links.proofs.Sweeps.{type-is}
 use Rattle.links.proofs.is_group.Statement.{statement}
 use Rattle.links.proofs.is_group.Tie as tie
@@ -15,8 +15,8 @@ pub is-group-spec : {M : Type 1} → statement M
 is-group-spec =
     tie.close
     (tie.spec
-    (λ c. search sweeping)
-    (λ c κs. search sweeping)
-    (λ c. search sweeping)
-    (λ c κs. search sweeping)
+    (λ c. search linking)
+    (λ c κs. search linking)
+    (λ c. search linking)
+    (λ c κs. search linking)
     returns)

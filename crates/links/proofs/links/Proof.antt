@@ -1,7 +1,13 @@
 -- `links::links` meets its contract.
-use Rattle.links.proofs.Rules.{sweeping}
+use Rattle.links.proofs.Rules.{towns}
 use Rattle.links.proofs.links.Statement.{statement}
 use Rattle.links.proofs.links.Tie as tie
 
 pub links-spec : {M : Type 1} → statement M
-links-spec = tie.close (tie.spec (λ c κs. search sweeping) (λ c. search sweeping) (λ c κs. search sweeping) (λ c. search sweeping))
+links-spec =
+    tie.close
+    (tie.spec
+    (λ c κs. search towns)
+    (λ c. search towns)
+    (λ c κs. search towns)
+    (λ c. search towns))

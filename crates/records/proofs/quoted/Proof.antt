@@ -5,13 +5,5 @@ use Rattle.records.proofs.quoted.Tie as tie
 
 pub quoted-spec : {M : Type 1} → statement M
 quoted-spec =
-    tie.close
-    (tie.spec
-    (λ c. search records)
-    (λ c. search records)
-    (λ c. search records)
-    (λ c κs. search records)
-    (λ c. search records)
-    (λ c κs. search records)
-    (λ c κs. search records)
-    (λ c. search records))
+    tie.close (tie.spec (λ c. search records) (λ c. search records) (λ c. search records) (λ c κs. search records) (λ c. search records)
+    (λ c κs. search records) (λ c κs. search records) (λ c. search records))

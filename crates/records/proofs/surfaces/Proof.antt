@@ -8,28 +8,12 @@ use Rattle.records.proofs.surfaces.Statement.{statement}
 use Rattle.records.proofs.surfaces.Tie as tie
 
 abbrev Inv-loop : tie.InvT-loop
-Inv-loop text table sheet₀ at i n o₀ k₀ sheet o k = Laying Any surfaceBytes text table i n k sheet₀ sheet at o
+Inv-loop text table i sheet₀ at n o₀ k₀ sheet o k = Laying Any surfaceBytes text table i n k sheet₀ sheet at o
 
 abbrev μ-loop : tie.MeasureT-loop
-μ-loop text table sheet₀ at i n o₀ k₀ sheet o k = n - k
+μ-loop text table i sheet₀ at n o₀ k₀ sheet o k = n - k
 
 pub surfaces-spec : {M : Type 1} → statement M
 surfaces-spec =
-    tie.close
-    (tie.spec
-    Inv-loop
-    μ-loop
-    (λ c. search records)
-    (λ c. search records)
-    (λ c. search records)
-    (λ c κs. search records)
-    (λ c. search records)
-    (λ c κs. search records)
-    (λ c. search records)
-    (λ c. search records)
-    (λ c κs. search records)
-    (λ c κs. search records)
-    (λ c. search records)
-    (λ c. search records)
-    (λ c. search records)
-    (λ c. search records))
+    tie.close (tie.spec Inv-loop μ-loop (λ c κs. search records) (λ c. search records) (λ c. search records) (λ c κs. search records)
+    (λ c κs. search records) (λ c. search records) (λ c. search records) (λ c. search records) (λ c. search records))

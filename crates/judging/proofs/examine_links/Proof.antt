@@ -1,0 +1,14 @@
+-- `judging::examine_links` meets its contract.
+use Rattle.judging.proofs.Rules.{examines}
+use Rattle.judging.proofs.examine_links.Statement.{statement}
+use Rattle.judging.proofs.examine_links.Tie as tie
+
+pub examine-links-spec : {M : Type 1} → statement M
+examine-links-spec =
+    tie.close
+    (tie.spec
+    (λ c κs. search examines)
+    (λ c κs. search examines)
+    (λ c. search examines)
+    (λ c. search examines)
+    (λ c. search examines))
