@@ -51,7 +51,7 @@ group-child-absent = refl
 
 -- one ID in two lists is not listed twice in one
 both-lists :
-    judged (ascii "{\"CityObjects\":{\"a\":{\"type\":\"Road\",\"children\":[\"b\"],\"parents\":[\"b\"]},\"b\":{\"type\":\"Road\",\"children\":[\"a\"],\"parents\":[\"a\"]}}}")
+    judged (ascii "{\"CityObjects\":{\"a\":{\"children\":[\"b\"],\"parents\":[\"b\"]},\"b\":{\"children\":[\"a\"],\"parents\":[\"a\"]}}}")
     ≡ noFault
 unfolding judged
 both-lists = refl
