@@ -9,7 +9,9 @@ lay-json-requires : tie.Need-lay-json-requires
 lay-json-requires c κs = (passed-short _ (c .before .before .before .screen .ensures) (c .before .enum-told .given .1), (search (lays, zeroed)))
 
 returns : tie.Need-returns
-returns c = lay-answer (search (lays, passed-lay)) (search lays)
+returns c =
+    let passed = c .before .before .before .before in
+    lay-answer (passed-lay (passed .before .before .screen .ensures) (passed .enum-told .given .1) (c .before .before .lay-json .ensures)) (search lays)
 
 returns-2 : tie.Need-returns-2
 returns-2 c = lay-answer (refuses _ (screened-refused _ (c .before .before .before .screen .ensures) (c .before .screened .given .1)) (search (lays, zeroed))) (search lays)
