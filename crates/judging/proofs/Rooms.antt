@@ -11,7 +11,7 @@ use Rattle.utf8.specs.Ascii.{ascii}
 use Rattle.utf8.specs.Utf8.{same}
 use Rattle.json.specs.Tree.{Json, null, bool, num, str, arr, obj, Items, noItems, _▸_, Members, empty, member}
 use Rattle.json.specs.Table.{Sub, size, sizes, widths}
-use Rattle.json.specs.Laws.{size-pos, sub-within}
+use Rattle.json.specs.Laws.{size-pos}
 use Rattle.nodes.specs.Access.{elements, listed, members, pairs, Member, nameOf, firstNamed, find}
 use Rattle.nodes.specs.Unique.{unique}
 use Rattle.fields.specs.Fields.{elementsIn, listedIn, membersIn, objectsOf}
@@ -109,13 +109,13 @@ same-count name (m ∷ ms) (o ∷ os) e h =
     ap (λ (v : Json). length (listedIn name v) + listedCount name ms) (h 0 (omega arith))
     ∙ ap (λ (n : ℕ). length (listedIn name (o .1)) + n) (same-count name ms os (omega arith) (λ k l. h (suc k) (omega arith)))
 
-pub room-for : {x t offsets rows : List ℕ} (name : String) → Linked x t offsets → RowRoom t rows → RoomFor x t offsets name rows
+pub room-for : {x t offsets rows : List ℕ} (name : String) → Linked x t offsets → RowRoom x t rows → RoomFor x t offsets name rows
 room-for {offsets = offsets} name d r = record {
   all = λ ms o.
       let v = d .value in
       let u = d .indexed v (d .stands) in
       let c : listedCount name ms ≡ listedCount name (objectsOf v) = same-count name ms (objectsOf v) (sym (o .all) ∙ u .all)
       (λ k l. unique (o .each k nobody (omega (arith, o .all)) .value) (u .each k nobody (omega (arith, o .all)) .value)) in
-      omega (arith, c, u .all, objects-words name v, sub-within (d .stands), r .long);
+      omega (arith, c, u .all, objects-words name v, r .long v (d .stands));
   short = r .short;
 }

@@ -35,7 +35,7 @@ use Rattle.judging.specs.declared.Screened.the-variants as screened
 use Rattle.judging.specs.declared.Opened.{Opened}
 use Rattle.judging.specs.declared.Opened.the-variants as opened
 use Rattle.judging.specs.Judging.{screenedAs, treeOrRefusal, openedAs, Room, Stands, TreeIn, Opens, Linked, Rows, offsetsOf, LinkedBy, TreeExamined, Examined, RowsOf}
-use Rattle.judging.specs.Laws.{passed-short, passed-judged, screened-refused, opened-tree, opened-refused, table-refused, table-accepted, lent-offsets, index-offsets, room-long, rows-long}
+use Rattle.judging.specs.Laws.{passed-short, passed-judged, screened-refused, opened-tree, opened-refused, table-below, table-accepted, lent-offsets, index-offsets, room-long, table-long, tree-words}
 use Rattle.judging.specs.Least.{early-passes, all-passes, before-links, no-repeat, no-schema, from-five, few-objects}
 use Rattle.judging.proofs.Alone.{alone}
 use Rattle.judging.proofs.Rooms.{room-for}
@@ -170,10 +170,10 @@ pub ruleset judges = (
   open-short,
   opened-tree,
   opened-refused,
-  table-refused,
+  table-below,
   table-accepted,
 )
 
-pub ruleset rooms = (needs, room-long, rows-long)
+pub ruleset rooms = (needs, room-long, table-long, tree-words)
 
 pub ruleset examines = (needs, tree-examined, room-for, linked-objects, linked-ready, rows-are, linked-lent, rows-lent, examine-early, early-rows, examine-linked, examine-late, late-rows)

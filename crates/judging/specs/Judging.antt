@@ -73,10 +73,10 @@ pub record Opens (x t₀ t : List ℕ) (r : Opened) : Type 0 where
   pub is : openedAs r ≡ treeOrRefusal (read x)
   pub holds : (n : ℕ) → r ≡ opened.Tree n → TreeIn x t₀ t n
 
--- the rows have room for what the city objects list in a text whose tree stands in the table t: a row for each and an entry for each listed value
--- take a third of their words
-pub record RowRoom (t rows : List ℕ) : Type 0 where
-  pub long : length t ≤ 3 * length rows
+-- the rows have room for what the city objects list in the tree that stands at the node 0:
+-- a word for each object, one more and one for each listed value take a third of the tree's words
+pub record RowRoom (x t rows : List ℕ) : Type 0 where
+  pub long : (v : Json) → Sub x t 0 v → size v ≤ 3 * length rows
   pub short : length rows ≤ 65535
 
 -- a value of a text that is short enough stands at the node 0; the offsets are those of its city objects, no two of which have the same ID (rule 6)

@@ -1,5 +1,5 @@
 -- What follows from what the parts of judge answered.
-use Prim.Native.Nat.{ℕ, _-_, _≤_, _<_}
+use Prim.Native.Nat.{ℕ, _-_, _*_, _≤_, _<_}
 use native.Mathlib.Omega.{arith}
 use mathlib.Core.Path.{_≡_, refl, sym, ap, _∙_, subst}
 use mathlib.Core.Bool.{Bool, true, false, cond}
@@ -9,8 +9,8 @@ use mathlib.Core.Option.{Option, some}
 use mathlib.Core.Option as option
 use lib.ListN.{length, take, drop, replicate}
 use lib.Seq.{length-take-le, getD-take}
-use lib.Dec.{ltb}
-use borrow.Author.Tests.{ltb-true, ltb-false}
+use lib.Dec.{ltb, leb}
+use borrow.Author.Tests.{ltb-true, ltb-false, leb-true}
 use Rattle.utf8.specs.Utf8.{wholeLength}
 use Rattle.utf8.specs.Laws.{clash}
 use Rattle.json.specs.Machine.{Outcome, read, reads, bad, tooDeep}
@@ -19,7 +19,10 @@ use Rattle.fields.specs.Says.{Indexed}
 use Rattle.fields.specs.declared.Index.{Index}
 use Rattle.ids.specs.Says.{Offsets}
 use Rattle.nodes.specs.Faults.{ruleOf, placeIn, noFault}
+use Rattle.json.specs.Table.{size}
+use Rattle.json.specs.Laws.{sub-within}
 use Rattle.nodes.specs.Laws.{fresh-length}
+use Rattle.nodes.specs.Unique.{unique}
 use Rattle.schema.specs.declared.Walked.{Walked}
 use Rattle.verdict.specs.Verdict.{accepted, refused, faults, parsed, screening, verdict}
 use Rattle.verdict.specs.Verdict as judged
@@ -98,6 +101,11 @@ module _ {x t : List ℕ} {n : ℕ} {w : Walked} (s : Stands x t n) (h : Examine
   unfolding verdictOf parsed
   table-refused f k e = e ∙ sym (ap parsed (s .reads) ∙ judged-fault (s .value) (h .least (s .value) (s .reads)) k)
 
+  -- by any bound up to that of all faults
+  pub table-below : (f : Refusal) (b : ℕ) → w .least < b → leb b noFault ≡ true → refusal f ≡ refused (ruleOf (w .least)) (placeIn (w .least))
+      → verdictOf (Refused f) ≡ parsed (read x)
+  table-below f b l k e = table-refused f (omega (arith, leb-true b noFault k)) e
+
   pub table-accepted : noFault ≤ w .least → verdictOf (Accepted (w .index .count)) ≡ parsed (read x)
   unfolding verdictOf parsed
   table-accepted k =
@@ -128,5 +136,16 @@ lent-offsets index = let z : index .count - 0 ≡ index .count = omega arith in 
 pub room-long : {x t : List ℕ} → length x ≤ 65535 → t ≡ replicate 98352 0 → Room x t
 room-long h q = record { short = h; long = omega (arith, fresh-length 98352 q) }
 
-pub rows-long : {t rows : List ℕ} → t ≡ replicate 98352 0 → rows ≡ replicate 32784 0 → RowRoom t rows
-rows-long p q = record { long = omega (arith, fresh-length 98352 p, fresh-length 32784 q); short = omega (arith, fresh-length 32784 q) }
+pub table-long : {t : List ℕ} → t ≡ replicate 98352 0 → length t ≤ 98352
+table-long q = omega (arith, fresh-length 98352 q)
+
+-- rows for a tree of n words
+pub rows-room : {x t rows : List ℕ} {n : ℕ} (m : ℕ) → Stands x t n → rows ≡ replicate m 0 → n ≤ 3 * m → m ≤ 65535 → RowRoom x t rows
+rows-room m s q h k = record {
+  long = λ v u. let e : s .value ≡ v = unique (s .stands) u in omega (arith, fresh-length m q, s .ends, ap size e);
+  short = omega (arith, fresh-length m q);
+}
+
+-- a tree has no more words than its table
+pub tree-words : {x t : List ℕ} {n : ℕ} → Stands x t n → length t ≤ 98352 → n ≤ 98352
+tree-words s h = omega (arith, s .ends, sub-within (s .stands))

@@ -87,7 +87,8 @@ fn examine_links(
     parents: &mut [u16],
     best: u32,
 ) -> u32
-    requires { ⌜ (Linked (now text) (now table) (now offsets)) × (RowRoom (now table) (now children)) × (RowRoom (now table) (now parents)) ⌝ }
+    requires { ⌜ (Linked (now text) (now table) (now offsets)) × (RowRoom (now text) (now table) (now children))
+        × (RowRoom (now text) (now table) (now parents)) ⌝ }
     ensures { λ r. ⌜ LinksGive (now (text .entry)) (now (table .entry)) best r ⌝ }
     ensures { λ _. ⌜ Rows (now (text .entry)) (now (table .entry)) (now (offsets .entry)) (now (children .exit)) (now (parents .exit)) ⌝ }
 {
@@ -104,7 +105,7 @@ fn examine_index(
     parents: &mut [u16],
     best: u32,
 ) -> u32
-    requires { ⌜ (LinkedBy (now text) (now table) index) × (RowRoom (now table) (now children)) × (RowRoom (now table) (now parents)) ⌝ }
+    requires { ⌜ (LinkedBy (now text) (now table) index) × (RowRoom (now text) (now table) (now children)) × (RowRoom (now text) (now table) (now parents)) ⌝ }
     ensures { λ r. ⌜ LinksGive (now (text .entry)) (now (table .entry)) best r ⌝ }
     ensures { λ _. ⌜ Rows (now (text .entry)) (now (table .entry)) (offsetsOf index) (now (children .exit)) (now (parents .exit)) ⌝ }
 {
@@ -133,7 +134,7 @@ pub fn examine(
     children: &mut [u16],
     parents: &mut [u16],
 ) -> Walked
-    requires { ⌜ (Stands (now text) (now table) n) × (RowRoom (now table) (now children)) × (RowRoom (now table) (now parents)) ⌝ }
+    requires { ⌜ (Stands (now text) (now table) n) × (RowRoom (now text) (now table) (now children)) × (RowRoom (now text) (now table) (now parents)) ⌝ }
     ensures { λ r. ⌜ Examined (now (text .entry)) (now (table .entry)) r ⌝ }
     ensures { λ r. ⌜ RowsOf (now (text .entry)) (now (table .entry)) r (now (children .exit)) (now (parents .exit)) ⌝ }
 {
@@ -158,7 +159,7 @@ fn judge_table(
     children: &mut [u16],
     parents: &mut [u16],
 ) -> Verdict
-    requires { ⌜ (Stands (now text) (now table) n) × (RowRoom (now table) (now children)) × (RowRoom (now table) (now parents)) ⌝ }
+    requires { ⌜ (Stands (now text) (now table) n) × (RowRoom (now text) (now table) (now children)) × (RowRoom (now text) (now table) (now parents)) ⌝ }
     ensures { λ r. ⌜ verdictOf r ≡ parsed (read (now (text .entry))) ⌝ }
 {
     let walked = examine(text, table, n, children, parents);
@@ -170,30 +171,76 @@ fn judge_table(
     Verdict::Accepted(index.count)
 }
 
-// Rules 3 to 17 of a text, with a work table that has room for its tree, and rows that have room for its links.
-fn judge_in(text: &[u8], table: &mut [u32], children: &mut [u16], parents: &mut [u16]) -> Verdict
-    requires { ⌜ (Room (now text) (now table)) × (RowRoom (now table) (now children)) × (RowRoom (now table) (now parents)) ⌝ }
+// Rules 5 to 17 over the node table, with rows for the links of a tree of at most 6,195 words. Small rows are cleared sooner.
+fn judge_small(text: &[u8], table: &[u32], n: usize) -> Verdict
+    requires { ⌜ (Stands (now text) (now table) n) × (n ≤ 6195) ⌝ }
+    ensures { λ r. ⌜ verdictOf r ≡ parsed (read (now (text .entry))) ⌝ }
+{
+    let mut below: [u16; 2065] = [0; 2065];
+    let mut above: [u16; 2065] = [0; 2065];
+    let children: &mut [u16] = &mut below;
+    let parents: &mut [u16] = &mut above;
+    judge_table(text, table, n, children, parents)
+}
+
+// The same of at most 49,152 words.
+fn judge_middle(text: &[u8], table: &[u32], n: usize) -> Verdict
+    requires { ⌜ (Stands (now text) (now table) n) × (n ≤ 49152) ⌝ }
+    ensures { λ r. ⌜ verdictOf r ≡ parsed (read (now (text .entry))) ⌝ }
+{
+    let mut below: [u16; 16384] = [0; 16384];
+    let mut above: [u16; 16384] = [0; 16384];
+    let children: &mut [u16] = &mut below;
+    let parents: &mut [u16] = &mut above;
+    judge_table(text, table, n, children, parents)
+}
+
+// The same of at most 98,352 words.
+fn judge_large(text: &[u8], table: &[u32], n: usize) -> Verdict
+    requires { ⌜ (Stands (now text) (now table) n) × (n ≤ 98352) ⌝ }
+    ensures { λ r. ⌜ verdictOf r ≡ parsed (read (now (text .entry))) ⌝ }
+{
+    let mut below: [u16; 32784] = [0; 32784];
+    let mut above: [u16; 32784] = [0; 32784];
+    let children: &mut [u16] = &mut below;
+    let parents: &mut [u16] = &mut above;
+    judge_table(text, table, n, children, parents)
+}
+
+// The same with rows of a size that suits the tree.
+fn judge_tree(text: &[u8], table: &[u32], n: usize) -> Verdict
+    requires { ⌜ (Stands (now text) (now table) n) × (length (now table) ≤ 98352) ⌝ }
+    ensures { λ r. ⌜ verdictOf r ≡ parsed (read (now (text .entry))) ⌝ }
+{
+    if n <= 6195 {
+        return judge_small(text, table, n);
+    }
+    if n <= 49152 {
+        return judge_middle(text, table, n);
+    }
+    judge_large(text, table, n)
+}
+
+// Rules 3 to 17 of a text, with a work table that has room for its tree.
+fn judge_in(text: &[u8], table: &mut [u32]) -> Verdict
+    requires { ⌜ (Room (now text) (now table)) × (length (now table) ≤ 98352) ⌝ }
     ensures { λ r. ⌜ verdictOf r ≡ parsed (read (now (text .entry))) ⌝ }
 {
     let opened = open(text, table);
     match opened {
-        Opened::Tree(n) => judge_table(text, table, n, children, parents),
+        Opened::Tree(n) => judge_tree(text, table, n),
         Opened::Refused(refusal) => Verdict::Refused(refusal),
     }
 }
 
-// Rules 3 to 17 of a text of at most 4,096 bytes. Small work tables are cleared sooner.
+// Rules 3 to 17 of a text of at most 4,096 bytes. A small work table is cleared sooner.
 fn judge_short(text: &[u8]) -> Verdict
     requires { ⌜ length (now text) ≤ 4096 ⌝ }
     ensures { λ r. ⌜ verdictOf r ≡ parsed (read (now (text .entry))) ⌝ }
 {
     let mut space: [u32; 6194] = [0; 6194];
-    let mut below: [u16; 2065] = [0; 2065];
-    let mut above: [u16; 2065] = [0; 2065];
     let table: &mut [u32] = &mut space;
-    let children: &mut [u16] = &mut below;
-    let parents: &mut [u16] = &mut above;
-    judge_in(text, table, children, parents)
+    judge_in(text, table)
 }
 
 // Rules 3 to 17 of a text that is not too long.
@@ -202,15 +249,11 @@ fn judge_long(text: &[u8]) -> Verdict
     ensures { λ r. ⌜ verdictOf r ≡ parsed (read (now (text .entry))) ⌝ }
 {
     let mut space: [u32; 98352] = [0; 98352];
-    let mut below: [u16; 32784] = [0; 32784];
-    let mut above: [u16; 32784] = [0; 32784];
     let table: &mut [u32] = &mut space;
-    let children: &mut [u16] = &mut below;
-    let parents: &mut [u16] = &mut above;
-    judge_in(text, table, children, parents)
+    judge_in(text, table)
 }
 
-// Rules 3 to 17 of a text that is not too long, with work tables of a size that suits it.
+// Rules 3 to 17 of a text that is not too long, with a work table of a size that suits it.
 fn judge_json(text: &[u8]) -> Verdict
     requires { ⌜ length (now text) ≤ 65535 ⌝ }
     ensures { λ r. ⌜ verdictOf r ≡ parsed (read (now (text .entry))) ⌝ }

@@ -40,7 +40,7 @@ use Rattle.judging.specs.declared.Opened.{Opened}
 use Rattle.judging.specs.declared.Opened.the-variants as opened
 use Rattle.judging.specs.declared.Verdict.the-variants.{Refused}
 use Rattle.judging.specs.Judging.{verdictOf, screenedAs, Stands, Opens, Examined, RowsOf}
-use Rattle.judging.specs.Laws.{passed-short, passed-verdict, screened-refused, opened-tree, opened-refused, table-refused, clean, index-offsets, lent-offsets, room-long, rows-long}
+use Rattle.judging.specs.Laws.{passed-short, passed-verdict, screened-refused, opened-tree, opened-refused, table-refused, clean, index-offsets, lent-offsets, room-long, table-long, tree-words}
 use Rattle.judging.specs.Least.{few-clean, judged-none}
 use Rattle.laying.specs.declared.Answer.the-variants as answers
 use Rattle.laying.specs.Laying.{answered, Zeroes, Clean, CleanBy, Lays}
@@ -160,6 +160,6 @@ lay-answer {x} l e = let g = rw e at (l .gives) in (g, rw e at (l .leaves) ∙ a
 pub passed-lay : {x d₀ d : List ℕ} {a : laid.Answer} {r : Screened} → screenedAs r ≡ screening x → r ≡ screened.Passed → Lays x (parsed (read x)) d₀ d a → Lays x (verdict.verdict x) d₀ d a
 passed-lay {x} h e l = rw (passed-verdict x h e) l
 
-pub ruleset rooms = (needs, room-long, rows-long)
+pub ruleset rooms = (needs, room-long, table-long, tree-words)
 
 pub ruleset lays = (needs, passed-short, screened-refused, opened-tree, lay-refused, open-refused, clean-of, clean-lent, clean-ready, lay-laid, lay-no-room)

@@ -70,7 +70,8 @@ fn lay_table(
     parents: &mut [u16],
     sheet: &mut [u8],
 ) -> Answer
-    requires { ⌜ (Stands (now text) (now table) n) × (RowRoom (now table) (now children)) × (RowRoom (now table) (now parents)) × (Zeroes (now sheet)) ⌝ }
+    requires { ⌜ (Stands (now text) (now table) n) × (RowRoom (now text) (now table) (now children))
+        × (RowRoom (now text) (now table) (now parents)) × (Zeroes (now sheet)) ⌝ }
     ensures { λ r. ⌜ Lays (now (text .entry)) (parsed (read (now (text .entry)))) (now (sheet .entry)) (now (sheet .exit)) (answered r) ⌝ }
 {
     let walked = judging::examine(text, table, n, children, parents);
@@ -82,20 +83,64 @@ fn lay_table(
     lay_index(text, table, index, children, parents, sheet)
 }
 
-// Lays out a text in a sheet of zeroes, with a work table that has room for its tree, and rows that have room for its links.
-fn lay_in(
-    text: &[u8],
-    table: &mut [u32],
-    children: &mut [u16],
-    parents: &mut [u16],
-    sheet: &mut [u8],
-) -> Answer
-    requires { ⌜ (Room (now text) (now table)) × (RowRoom (now table) (now children)) × (RowRoom (now table) (now parents)) × (Zeroes (now sheet)) ⌝ }
+// The same with rows for the links of a tree of at most 6,195 words.
+fn lay_small(text: &[u8], table: &[u32], n: usize, sheet: &mut [u8]) -> Answer
+    requires { ⌜ (Stands (now text) (now table) n) × (n ≤ 6195) × (Zeroes (now sheet)) ⌝ }
+    ensures { λ r. ⌜ Lays (now (text .entry)) (parsed (read (now (text .entry)))) (now (sheet .entry)) (now (sheet .exit)) (answered r) ⌝ }
+{
+    let mut below: [u16; 2065] = [0; 2065];
+    let mut above: [u16; 2065] = [0; 2065];
+    let children: &mut [u16] = &mut below;
+    let parents: &mut [u16] = &mut above;
+    lay_table(text, table, n, children, parents, sheet)
+}
+
+// The same of at most 49,152 words.
+fn lay_middle(text: &[u8], table: &[u32], n: usize, sheet: &mut [u8]) -> Answer
+    requires { ⌜ (Stands (now text) (now table) n) × (n ≤ 49152) × (Zeroes (now sheet)) ⌝ }
+    ensures { λ r. ⌜ Lays (now (text .entry)) (parsed (read (now (text .entry)))) (now (sheet .entry)) (now (sheet .exit)) (answered r) ⌝ }
+{
+    let mut below: [u16; 16384] = [0; 16384];
+    let mut above: [u16; 16384] = [0; 16384];
+    let children: &mut [u16] = &mut below;
+    let parents: &mut [u16] = &mut above;
+    lay_table(text, table, n, children, parents, sheet)
+}
+
+// The same of at most 98,352 words.
+fn lay_large(text: &[u8], table: &[u32], n: usize, sheet: &mut [u8]) -> Answer
+    requires { ⌜ (Stands (now text) (now table) n) × (n ≤ 98352) × (Zeroes (now sheet)) ⌝ }
+    ensures { λ r. ⌜ Lays (now (text .entry)) (parsed (read (now (text .entry)))) (now (sheet .entry)) (now (sheet .exit)) (answered r) ⌝ }
+{
+    let mut below: [u16; 32784] = [0; 32784];
+    let mut above: [u16; 32784] = [0; 32784];
+    let children: &mut [u16] = &mut below;
+    let parents: &mut [u16] = &mut above;
+    lay_table(text, table, n, children, parents, sheet)
+}
+
+// The same with rows of a size that suits the tree.
+fn lay_tree(text: &[u8], table: &[u32], n: usize, sheet: &mut [u8]) -> Answer
+    requires { ⌜ (Stands (now text) (now table) n) × (length (now table) ≤ 98352) × (Zeroes (now sheet)) ⌝ }
+    ensures { λ r. ⌜ Lays (now (text .entry)) (parsed (read (now (text .entry)))) (now (sheet .entry)) (now (sheet .exit)) (answered r) ⌝ }
+{
+    if n <= 6195 {
+        return lay_small(text, table, n, sheet);
+    }
+    if n <= 49152 {
+        return lay_middle(text, table, n, sheet);
+    }
+    lay_large(text, table, n, sheet)
+}
+
+// Lays out a text in a sheet of zeroes, with a work table that has room for its tree.
+fn lay_in(text: &[u8], table: &mut [u32], sheet: &mut [u8]) -> Answer
+    requires { ⌜ (Room (now text) (now table)) × (length (now table) ≤ 98352) × (Zeroes (now sheet)) ⌝ }
     ensures { λ r. ⌜ Lays (now (text .entry)) (parsed (read (now (text .entry)))) (now (sheet .entry)) (now (sheet .exit)) (answered r) ⌝ }
 {
     let opened = judging::open(text, table);
     match opened {
-        Opened::Tree(n) => lay_table(text, table, n, children, parents, sheet),
+        Opened::Tree(n) => lay_tree(text, table, n, sheet),
         Opened::Refused(refusal) => Answer::Refused(refusal),
     }
 }
@@ -106,12 +151,8 @@ fn lay_short(text: &[u8], sheet: &mut [u8]) -> Answer
     ensures { λ r. ⌜ Lays (now (text .entry)) (parsed (read (now (text .entry)))) (now (sheet .entry)) (now (sheet .exit)) (answered r) ⌝ }
 {
     let mut space: [u32; 6194] = [0; 6194];
-    let mut below: [u16; 2065] = [0; 2065];
-    let mut above: [u16; 2065] = [0; 2065];
     let table: &mut [u32] = &mut space;
-    let children: &mut [u16] = &mut below;
-    let parents: &mut [u16] = &mut above;
-    lay_in(text, table, children, parents, sheet)
+    lay_in(text, table, sheet)
 }
 
 // Lays out a text that is not too long, in a sheet of zeroes.
@@ -120,15 +161,11 @@ fn lay_long(text: &[u8], sheet: &mut [u8]) -> Answer
     ensures { λ r. ⌜ Lays (now (text .entry)) (parsed (read (now (text .entry)))) (now (sheet .entry)) (now (sheet .exit)) (answered r) ⌝ }
 {
     let mut space: [u32; 98352] = [0; 98352];
-    let mut below: [u16; 32784] = [0; 32784];
-    let mut above: [u16; 32784] = [0; 32784];
     let table: &mut [u32] = &mut space;
-    let children: &mut [u16] = &mut below;
-    let parents: &mut [u16] = &mut above;
-    lay_in(text, table, children, parents, sheet)
+    lay_in(text, table, sheet)
 }
 
-// Lays out a text that is not too long, in a sheet of zeroes, with work tables of a size that suits it.
+// Lays out a text that is not too long, in a sheet of zeroes, with a work table of a size that suits it.
 fn lay_json(text: &[u8], sheet: &mut [u8]) -> Answer
     requires { ⌜ (length (now text) ≤ 65535) × (Zeroes (now sheet)) ⌝ }
     ensures { λ r. ⌜ Lays (now (text .entry)) (parsed (read (now (text .entry)))) (now (sheet .entry)) (now (sheet .exit)) (answered r) ⌝ }

@@ -14,6 +14,4 @@ judge-in-spec =
     (λ c. search judges)
     (λ c. search judges)
     (λ c. search judges)
-    (λ c. search judges)
-    (λ c. search judges)
     (λ c. search judges))

@@ -9,9 +9,7 @@ lay-in-spec =
     (tie.spec
     (λ c κs. search lays)
     (λ c. search lays)
-    (λ c κs. (search lays, search lays, search lays, search lays))
-    (λ c. search lays)
-    (λ c. search lays)
+    (λ c κs. search lays)
     (λ c. search lays)
     (λ c. search lays)
     (λ c. search lays)
