@@ -18,7 +18,7 @@ use Rattle.everywhere.specs.Everywhere.{rule5, rule6}
 use Rattle.nodes.specs.Faults.{fault, least, noFault}
 use Rattle.nodes.specs.Says.{Gives}
 use Rattle.fields.specs.Fields.{objectsOf}
-use Rattle.schema.specs.Schema.{cityJson}
+use Rattle.rules.specs.Schema.{cityJson}
 use Rattle.schema.specs.Says.{IndexedAt}
 use Rattle.schema.specs.declared.Walked.{Walked}
 use Rattle.nodes.specs.Unique.{unique}

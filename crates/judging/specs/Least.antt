@@ -17,8 +17,8 @@ use Rattle.nodes.specs.Faults.{fault, least, noFault, ruleOf, placeIn}
 use Rattle.nodes.specs.Laws.{least-++, least-le}
 use Rattle.shapes.specs.Checks.{all, on, at, needs, objectKind}
 use Rattle.fields.specs.Fields.{membersIn, countIn, objectsOf}
-use Rattle.schema.specs.Schema.{cityJson, cityObjects, objectLimit, nameFault, transform, word}
-use Rattle.links.specs.Links.{linkFaults}
+use Rattle.rules.specs.Schema.{cityJson, cityObjects, objectLimit, nameFault, transform, word}
+use Rattle.rules.specs.Links.{linkFaults}
 use Rattle.model.specs.Code.{All}
 use Rattle.verdict.specs.Verdict.{accepted, refused, faults, given, judged}
 use Rattle.sheets.specs.Clear.{nil-left, nil-right}

@@ -12,9 +12,9 @@ use Rattle.everywhere.specs.Everywhere.{rule5, rule6}
 use Rattle.nodes.specs.Faults.{fault, least, noFault, ruleOf, placeIn}
 use Rattle.fields.specs.Fields.{objectsOf}
 use Rattle.fields.specs.declared.Index.{Index}
-use Rattle.schema.specs.Schema.{cityJson}
+use Rattle.rules.specs.Schema.{cityJson}
 use Rattle.schema.specs.declared.Walked.{Walked}
-use Rattle.links.specs.Links.{linkFaults}
+use Rattle.rules.specs.Links.{linkFaults}
 use Rattle.model.specs.Model.{sheetOf}
 use Rattle.model.specs.Read.{modelOf}
 use Rattle.model.specs.Size.{short-enough}

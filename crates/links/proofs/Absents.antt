@@ -26,7 +26,7 @@ use Rattle.shapes.specs.Laws.{unless-true}
 use Rattle.ids.specs.Says.{namesOf}
 use Rattle.marks.specs.Says.{Row, MarkGives}
 use Rattle.rows.specs.Rows.{linkNumber}
-use Rattle.links.specs.Links.{idsAmong}
+use Rattle.rules.specs.Links.{idsAmong}
 use Rattle.links.specs.Passes.{absentAt, absent, listedUnder}
 use Rattle.links.specs.Says.{numbersOf, AbsentGives, Sized, AbsentsGive, AbsentUnder}
 use Rattle.links.proofs.Numbers.{among-has, string-number, some-number, names-count}

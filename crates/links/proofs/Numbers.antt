@@ -18,7 +18,7 @@ use Rattle.everywhere.specs.Everywhere.{among}
 use Rattle.ids.specs.Says.{namesOf}
 use Rattle.shapes.specs.Checks.{isSome}
 use Rattle.rows.specs.Rows.{linkNumber}
-use Rattle.links.specs.Links.{idsAmong}
+use Rattle.rules.specs.Links.{idsAmong}
 
 -- `same` looks the same from either side
 same-turn : (u w : List ℕ) → same u w ≡ same w u

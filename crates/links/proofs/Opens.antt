@@ -30,7 +30,7 @@ use Rattle.ids.specs.Says.{namesOf}
 use Rattle.ids.proofs.Rules.{nobody}
 use Rattle.marks.specs.Marks.{answers, answered}
 use Rattle.rows.specs.Rows.{linkNumber, linkNumbers}
-use Rattle.links.specs.Links.{idsAmong, idsIn}
+use Rattle.rules.specs.Links.{idsAmong, idsIn}
 use Rattle.links.specs.Passes.{openAt, openIn, listedUnder}
 use Rattle.links.specs.Says.{Sized, OtherSide, OpenGives, OpensGive, OpenUnder, ChildrenOpen}
 use Rattle.links.proofs.Numbers.{listed-has, string-number, some-number, named-number, names-count}

@@ -14,7 +14,7 @@ use Rattle.shapes.specs.Checks.{unless}
 use Rattle.shapes.specs.Laws.{least-turn, unless-true}
 use Rattle.fields.specs.Fields.{listedIn, typeText}
 use Rattle.model.specs.Code.{concatMap}
-use Rattle.links.specs.Links.{idsAmong, link, linksFrom, parentLink, linksOf, linksOfEach}
+use Rattle.rules.specs.Links.{idsAmong, link, linksFrom, parentLink, linksOf, linksOfEach}
 use Rattle.links.specs.Passes.{absentAt, absent, listedUnder, absentUnder, openAt, openIn, openChildren, openParents}
 
 -- four lists of faults, the two in the middle in the other order

@@ -40,7 +40,7 @@ use Rattle.marks.specs.Says.{Row, RowAt, Table, SetTo, Whole}
 use Rattle.marks.specs.Says as marks
 use Rattle.rows.specs.Rows.{linkNumber, linkNumbers}
 use Rattle.rows.specs.Says.{Listed}
-use Rattle.links.specs.Links.{idsAmong, parentLink, linkFaults}
+use Rattle.rules.specs.Links.{idsAmong, parentLink, linkFaults}
 use Rattle.links.specs.Passes.{absentAt, absent, listedUnder, absentUnder, openIn, openChildren, openParents}
 use Rattle.links.specs.Says.{numbersOf, SizedUnder, AbsentUnder, ListedAs, ObjectGives, AllGive, Fills, OtherSide, Links, OpenUnder, ChildrenOpen, ParentGives, OpenFaults, Empty, Town, Marks, LinkFaults, Ready, LinksGive}
 use Rattle.links.proofs.Numbers.{among-has, string-number, other-number, some-number, names-count}

@@ -1,5 +1,3 @@
 -- Rules 15 to 17 of document 01.
-pub mod Links
 pub mod Passes
 pub mod Says
-pub mod Examples

@@ -10,7 +10,7 @@ use Rattle.nodes.specs.Access.{isStringValue, Member, members, nameOf, textOf, 
 use Rattle.everywhere.specs.Everywhere.{among}
 use Rattle.shapes.specs.Checks.{unless, isSome}
 use Rattle.fields.specs.Fields.{elementsIn, listedIn, typeText}
-use Rattle.links.specs.Links.{idsAmong, idsIn, parentLink}
+use Rattle.rules.specs.Links.{idsAmong, idsIn, parentLink}
 
 -- rule 15 of one value of a list, after those that were listed earlier
 unfoldable pub absentAt : List Member → List (List ℕ) → Json → List ℕ

@@ -19,7 +19,7 @@ use Rattle.ids.specs.Says.{Offsets, Objects, namesOf}
 use Rattle.marks.specs.Says.{Row}
 use Rattle.rows.specs.Rows.{linkNumber, linkNumbers}
 use Rattle.rows.specs.Says.{Listed}
-use Rattle.links.specs.Links.{idsAmong, parentLink, linksOfEach, linkFaults}
+use Rattle.rules.specs.Links.{idsAmong, parentLink, linksOfEach, linkFaults}
 use Rattle.links.specs.Passes.{absentAt, absent, listedUnder, absentUnder, openAt, openIn, openChildren, openParents}
 
 -- the numbers of the objects that some IDs name

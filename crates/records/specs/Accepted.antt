@@ -18,8 +18,8 @@ use Rattle.nodes.specs.Access.{isNumberValue, isNullValue, isArrayValue, elemen
 use Rattle.shapes.specs.Checks.{Check, unless, all, on, at, forEach, eachElement, values, objectKind, stringKind, numberKind, arrayKind, isSome, needs, text}
 use Rattle.shapes.specs.Shapes.{isIntegerValue, threeEntries, pairRange, coordinate, vertex, shaped, ranged, forBoth, matches}
 use Rattle.fields.specs.Fields.{textIn, typeText, countIn}
-use Rattle.schema.specs.Schema.{isGeometryType, geometryType, lod, boundaries, surfaces, semantics, needsLod, geometry, geometries, links, cityObject, cityObjects, threePairs, transform, vertices, cityJson}
-use Rattle.schema.specs.Schema as schema
+use Rattle.rules.specs.Schema.{isGeometryType, geometryType, lod, boundaries, surfaces, semantics, needsLod, geometry, geometries, links, cityObject, cityObjects, threePairs, transform, vertices, cityJson}
+use Rattle.rules.specs.Schema as schema
 use Rattle.model.specs.Code.{All}
 use Rattle.model.specs.Lists.{all-both}
 use Rattle.model.specs.Read.{get}

@@ -26,7 +26,7 @@ use Rattle.shapes.specs.Laws.{all-none, all-then, members-none, unless-told, un
 use Rattle.fields.specs.Fields.{membersIn, objectsOf}
 use Rattle.fields.specs.Laws.{at-room, at-onward}
 use Rattle.fields.specs.declared.Index.{Index}
-use Rattle.schema.specs.Schema.{nameFault, objectLimit, cityObject, cityObjects}
+use Rattle.rules.specs.Schema.{nameFault, objectLimit, cityObject, cityObjects}
 use Rattle.schema.proofs.Lines.{lines, checked}
 use Rattle.schema.specs.Says.{Checked, ObjectNode, Extra, Named, Limited, ExtraAt, ExtraFound, FillsAt, Fills, IndexedAt}
 

@@ -28,7 +28,7 @@ use Rattle.fields.specs.Laws.{at-node, of-none, of-some}
 use Rattle.shapes.specs.Checks.{Check, unless, all, on, forEach, stringKind, arrayKind, needs, text, isEmpty}
 use Rattle.shapes.specs.Shapes.{shaped, ranged, matches, isIntegerValue}
 use Rattle.shapes.specs.Says.{GivesTwo, Needs}
-use Rattle.schema.specs.Schema.{isGeometryType, isSurfaceType, geometryType, boundary, boundaries, overBoundary, needsLod}
+use Rattle.rules.specs.Schema.{isGeometryType, isSurfaceType, geometryType, boundary, boundaries, overBoundary, needsLod}
 use Rattle.schema.specs.Says.{Checked, CheckedOver, MemberFound, CodeAt, SoundAt, Outlined, Overlaid}
 use Rattle.schema.proofs.Lines.{lines}
 

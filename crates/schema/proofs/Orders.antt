@@ -14,7 +14,7 @@ use Rattle.nodes.specs.declared.Found.{Found}
 use Rattle.fields.specs.Fields.{typeText, countIn}
 use Rattle.shapes.specs.Checks.{Check, all, on, at, objectKind}
 use Rattle.shapes.specs.Says.{Needs}
-use Rattle.schema.specs.Schema.{word, objectType, geometryType, lod, surfaceType, boundaries, surface, surfaces, values, semantics, needsLod, geometry, geometries, links, cityObject, threePairs, transform, cityObjects, vertices, cityJson}
+use Rattle.rules.specs.Schema.{word, objectType, geometryType, lod, surfaceType, boundaries, surface, surfaces, values, semantics, needsLod, geometry, geometries, links, cityObject, threePairs, transform, cityObjects, vertices, cityJson}
 use Rattle.schema.specs.Says.{Checked, CheckedOver, optional, required, TypeAt, meaning, objects}
 use Rattle.schema.proofs.Lines.{line-none, line-then, line-append, line-object, optional-is, required-then, Part, need, may, other, names, apart, together, gather}
 use Rattle.schema.proofs.GeometryLaws.{own-best}

@@ -24,7 +24,7 @@ use Rattle.fields.specs.Laws.{string-node, string-first, string-second, string-
 use Rattle.shapes.specs.Checks.{Check, unless, all, eachElement, stringKind, numberKind, arrayKind, text}
 use Rattle.shapes.specs.Shapes.{threeEntries, pairRange, vertex}
 use Rattle.shapes.specs.Laws.{gives-then, text-none, all-none, all-then, unless-told, unless-yes, kind-yes, Pass, pass-none, pass-done}
-use Rattle.schema.specs.Schema.{objectType, isObjectType, threePairs, vertices}
+use Rattle.rules.specs.Schema.{objectType, isObjectType, threePairs, vertices}
 use Rattle.schema.specs.Says.{Checked, TypeAt, CodeAt}
 use Rattle.schema.proofs.Lines.{lines, checked, found-node}
 

@@ -1,3 +1,2 @@
 -- Rules 7 to 14 of document 01 as a schema.
-pub mod Schema
 pub mod Says

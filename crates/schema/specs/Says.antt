@@ -21,7 +21,7 @@ use Rattle.fields.specs.declared.Index.{Index}
 use Rattle.shapes.specs.Checks.{Check, unless, on, isSome}
 use Rattle.shapes.specs.Shapes.{shaped}
 use Rattle.shapes.specs.Says.{Nodes}
-use Rattle.schema.specs.Schema.{semantics, nameFault, cityObjects}
+use Rattle.rules.specs.Schema.{semantics, nameFault, cityObjects}
 
 -- r is the least of best and the faults that the check finds in the value that stands at the node i
 pub record Checked (c : Check) (x t : List ℕ) (i best r : ℕ) : Type 0 where

@@ -16,8 +16,8 @@ use Rattle.json.specs.Machine.{Outcome, reads, bad, tooDeep, read, treeIn, tree
 use Rattle.nodes.specs.Faults.{fault, ruleOf, placeIn, least, noFault}
 use Rattle.everywhere.specs.Everywhere.{rule5, rule6}
 use Rattle.fields.specs.Fields.{objectsOf}
-use Rattle.schema.specs.Schema.{cityJson}
-use Rattle.links.specs.Links.{linkFaults}
+use Rattle.rules.specs.Schema.{cityJson}
+use Rattle.rules.specs.Links.{linkFaults}
 use Rattle.verdict.specs.Verdict.{Verdict, accepted, faults, given, judged, parsed, screening, verdict}
 use Rattle.verdict.specs.Verdict as judge
 use Rattle.verdict.specs.Exact.{Clean, accepted-clean}

@@ -25,8 +25,8 @@ use Rattle.grammar.specs.Theorems.{read-text}
 use Rattle.nodes.specs.Access.{Member, listed, elements, pairs, members, nameOf, textOf, firstNamed, find}
 use Rattle.nodes.specs.Faults.{fault}
 use Rattle.everywhere.specs.Everywhere.{strings, stringsIn, stringsOf, unpairedIn, rule5, rule6}
-use Rattle.schema.specs.Schema.{cityJson}
-use Rattle.links.specs.Links.{linkFaults}
+use Rattle.rules.specs.Schema.{cityJson}
+use Rattle.rules.specs.Links.{linkFaults}
 use Rattle.verdict.specs.Verdict.{accepted, faults, verdict}
 use Rattle.verdict.specs.Exact.{accepted-clean}
 use Rattle.model.specs.Code.{All}

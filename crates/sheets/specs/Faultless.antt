@@ -22,9 +22,9 @@ use Rattle.nodes.specs.Faults.{fault}
 use Rattle.fields.specs.Fields.{listedIn, typeText, countIn}
 use Rattle.shapes.specs.Checks.{Check, all, on, at, forEach, values, eachMember, objectKind, stringKind, arrayKind, isSome, needs, text, isEmpty}
 use Rattle.shapes.specs.Shapes.{vertex, shaped, ranged, matches}
-use Rattle.schema.specs.Schema.{isObjectType, isGeometryType, isSurfaceType, word, objectType, geometryType, lod, surfaceType, boundary, boundaries, surface, surfaces, overBoundary, semantics, needsLod, geometry, geometries, links, cityObject, objectLimit, cityObjects, threePairs, transform, vertices, cityJson}
-use Rattle.schema.specs.Schema as schema
-use Rattle.links.specs.Links.{idsAmong, link, linksFrom, parentLink, linksOf, linksOfEach, linkFaults}
+use Rattle.rules.specs.Schema.{isObjectType, isGeometryType, isSurfaceType, word, objectType, geometryType, lod, surfaceType, boundary, boundaries, surface, surfaces, overBoundary, semantics, needsLod, geometry, geometries, links, cityObject, objectLimit, cityObjects, threePairs, transform, vertices, cityJson}
+use Rattle.rules.specs.Schema as schema
+use Rattle.rules.specs.Links.{idsAmong, link, linksFrom, parentLink, linksOf, linksOfEach, linkFaults}
 use Rattle.verdict.specs.Verdict.{faults}
 use Rattle.model.specs.Code.{All}
 use Rattle.model.specs.Model.{added, objectNumber, idsOf}

@@ -18,7 +18,7 @@ use Rattle.json.specs.Tree.{Json, null, bool, num, str, arr, obj}
 use Rattle.nodes.specs.Access.{isNullValue, isNumberValue, isArrayValue, elements, numeralOf}
 use Rattle.shapes.specs.Checks.{unless, forEach, eachElement, numberKind, arrayKind, isSome}
 use Rattle.shapes.specs.Shapes.{isIntegerValue, allIntegers, threeEntries, pairRange, isTriple, coordinate, vertex, shaped, ranged, forBoth, matches}
-use Rattle.schema.specs.Schema.{threePairs}
+use Rattle.rules.specs.Schema.{threePairs}
 use Rattle.model.specs.Code.{All}
 use Rattle.model.specs.Lists.{all-both, all-of-map}
 use Rattle.model.specs.Good.{AllThree, Leaves, GoodDecimal, GoodVertex, GoodValue, Both, Shaped}

@@ -24,9 +24,9 @@ use Rattle.numerals.specs.Numerals.{integer, pairOf, fits32, isBelow}
 use Rattle.shapes.specs.Shapes.{threeEntries, pairRange, coordinate, isTriple, vertex, shaped, ranged, forBoth, matches, isIntegerValue}
 use Rattle.words.specs.Words.{objectWords, geometryWords, codeOf, is, isAdded, isLod, isSecondLevel, depth, valuesDepth, isPermitted}
 use Rattle.fields.specs.Fields.{elementsIn, listedIn, typeText, countIn, membersIn, objectsOf}
-use Rattle.schema.specs.Schema.{isObjectType, isGeometryType, isSurfaceType, oneWord, word, objectType, geometryType, lod, surfaceType, boundary, boundaries, surface, surfaces, overBoundary, semantics, needsLod, geometry, geometries, cityObject, nameFault, objectLimit, cityObjects, threePairs, transform, vertices, cityJson}
-use Rattle.schema.specs.Schema as schema
-use Rattle.links.specs.Links.{idsAmong, idsIn, link, linksFrom, parentLink, linksOf, linksOfEach, linkFaults}
+use Rattle.rules.specs.Schema.{isObjectType, isGeometryType, isSurfaceType, oneWord, word, objectType, geometryType, lod, surfaceType, boundary, boundaries, surface, surfaces, overBoundary, semantics, needsLod, geometry, geometries, cityObject, nameFault, objectLimit, cityObjects, threePairs, transform, vertices, cityJson}
+use Rattle.rules.specs.Schema as schema
+use Rattle.rules.specs.Links.{idsAmong, idsIn, link, linksFrom, parentLink, linksOf, linksOfEach, linkFaults}
 use Rattle.model.specs.Code.{All}
 use Rattle.model.specs.Lists.{all-map, all-append}
 use Rattle.verdict.specs.Verdict.{faults}

@@ -10,8 +10,8 @@ use Rattle.json.specs.Machine.{reads, read}
 use Rattle.everywhere.specs.Everywhere.{rule5}
 use Rattle.nodes.specs.Faults.{fault, least, noFault}
 use Rattle.fields.specs.Fields.{objectsOf}
-use Rattle.schema.specs.Schema.{cityJson}
-use Rattle.links.specs.Links.{linkFaults}
+use Rattle.rules.specs.Schema.{cityJson}
+use Rattle.rules.specs.Links.{linkFaults}
 use Rattle.verdict.specs.Verdict.{Verdict, accepted, refused, given}
 use Rattle.verdict.specs.Examples.{judges}
 

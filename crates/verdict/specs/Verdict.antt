@@ -11,8 +11,8 @@ use Rattle.json.specs.Machine.{Outcome, reads, bad, tooDeep, read}
 use Rattle.everywhere.specs.Everywhere.{rule5, rule6}
 use Rattle.nodes.specs.Faults.{fault, ruleOf, placeIn, least, noFault}
 use Rattle.fields.specs.Fields.{objectsOf}
-use Rattle.schema.specs.Schema.{cityJson}
-use Rattle.links.specs.Links.{linkFaults}
+use Rattle.rules.specs.Schema.{cityJson}
+use Rattle.rules.specs.Links.{linkFaults}
 
 -- acceptance gives the object count; a refusal carries its number and its place together
 pub data Verdict : Type 0 where

@@ -1,6 +1,6 @@
 -- `schema::city_json` meets its contract.
 use Rattle.utf8.specs.Ascii.{ascii}
-use Rattle.schema.specs.Schema.{word}
+use Rattle.rules.specs.Schema.{word}
 use Rattle.schema.proofs.Orders.{root-is, rootParts}
 use Rattle.schema.proofs.Lines.{lines, together}
 use Rattle.schema.proofs.city_json.Statement.{statement}

@@ -1,7 +1,7 @@
 -- `schema::each_object` meets its contract.
 use Prim.Native.Nat.{_-_}
 use Rattle.shapes.specs.Laws.{MemberPass, members-done}
-use Rattle.schema.specs.Schema.{cityObject}
+use Rattle.rules.specs.Schema.{cityObject}
 use Rattle.schema.proofs.Lines.{lines}
 use Rattle.schema.proofs.each_object.Statement.{statement}
 use Rattle.schema.proofs.each_object.Tie as tie

@@ -1,7 +1,7 @@
 -- `schema::geometries_at` meets its contract.
 use Prim.Native.Nat.{_-_}
 use Rattle.shapes.specs.Laws.{Pass}
-use Rattle.schema.specs.Schema as schema
+use Rattle.rules.specs.Schema as schema
 use Rattle.schema.proofs.Strings.{arrayed}
 use Rattle.schema.proofs.geometries_at.Statement.{statement}
 use Rattle.schema.proofs.geometries_at.Tie as tie

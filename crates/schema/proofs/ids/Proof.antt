@@ -2,7 +2,7 @@
 use Prim.Native.Nat.{_-_}
 use Rattle.shapes.specs.Laws.{Pass}
 use Rattle.shapes.specs.Checks.{stringKind}
-use Rattle.schema.specs.Schema.{links}
+use Rattle.rules.specs.Schema.{links}
 use Rattle.schema.proofs.Strings.{arrayed}
 use Rattle.schema.proofs.ids.Statement.{statement}
 use Rattle.schema.proofs.ids.Tie as tie

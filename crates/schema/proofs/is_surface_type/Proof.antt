@@ -1,6 +1,6 @@
 -- `schema::is_surface_type` meets its contract.
 use Rattle.fields.specs.Laws.{string-text}
-use Rattle.schema.specs.Schema.{isSurfaceType}
+use Rattle.rules.specs.Schema.{isSurfaceType}
 use Rattle.schema.proofs.GeometryLaws.{surface-coded, surface-added}
 use Rattle.schema.proofs.Strings.{strings}
 use Rattle.schema.proofs.is_surface_type.Statement.{statement}

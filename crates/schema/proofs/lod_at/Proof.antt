@@ -1,5 +1,5 @@
 -- `schema::lod_at` meets its contract.
-use Rattle.schema.specs.Schema as schema
+use Rattle.rules.specs.Schema as schema
 use Rattle.schema.proofs.Strings.{strings}
 use Rattle.schema.proofs.lod_at.Statement.{statement}
 use Rattle.schema.proofs.lod_at.Tie as tie

@@ -1,5 +1,5 @@
 -- `schema::surface_type_at` meets its contract.
-use Rattle.schema.specs.Schema.{surfaceType}
+use Rattle.rules.specs.Schema.{surfaceType}
 use Rattle.schema.proofs.Strings.{strings}
 use Rattle.schema.proofs.surface_type_at.Statement.{statement}
 use Rattle.schema.proofs.surface_type_at.Tie as tie

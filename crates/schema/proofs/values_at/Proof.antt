@@ -1,5 +1,5 @@
 -- `schema::values_at` meets its contract.
-use Rattle.schema.specs.Schema as schema
+use Rattle.rules.specs.Schema as schema
 use Rattle.schema.proofs.Lines.{lines}
 use Rattle.schema.proofs.values_at.Statement.{statement}
 use Rattle.schema.proofs.values_at.Tie as tie

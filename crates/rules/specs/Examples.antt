@@ -6,7 +6,7 @@ use Rattle.utf8.specs.Ascii.{ascii, isDigit}
 use Rattle.json.specs.Tree.{_◂_, with}
 use Rattle.json.specs.Machine.{Outcome, reads, bad, tooDeep, read, step, wantStep, gotStep, nextStep, nameStep, mantStep, noughtStep, isBlank, isHex, isEscape}
 use Rattle.nodes.specs.Faults.{fault, least, noFault}
-use Rattle.links.specs.Links.{linkFaults}
+use Rattle.rules.specs.Links.{linkFaults}
 
 -- the least fault of the links in the tree of a text; 0 of a text that has no tree
 unfoldable judged : List ℕ → ℕ
