@@ -1,9 +1,7 @@
 -- The rule of the bits of a byte, by a test that antt computes at each byte and each bit.
-use Prim.Native.Nat.{ℕ, _+_, _^_, _<_}
+use Prim.Native.Nat.{ℕ, _+_, _*_, _^_, _%_, _<_}
 use mathlib.Core.Path.{_≡_, refl}
 use mathlib.Core.Bool.{Bool, true, false, _&&_, _||_}
-use mathlib.Core.List.{[], _∷_}
-use lib.ListN.{getD}
 use lib.Dec.{eqb, ltb}
 use borrow.Author.Tests.{ltb-true, eqb-true}
 use Rattle.utf8.specs.Laws.{both-left, both-right}
@@ -36,6 +34,6 @@ module _ (w k : ℕ) (b : w < 256) (h : k < 8) (e : bit w k ≡ false) where
   pub added-bit : (l : ℕ) → l < 8 → bit (w + 2 ^ k) l ≡ (eqb l k || bit w l)
   added-bit l m = agree-equal _ _ (each-below (λ l. agree (bit (w + 2 ^ k) l) (eqb l k || bit w l)) 8 l (both-right (ltb (w + 2 ^ k) 256) _ added) m)
 
--- the table of the powers of two
-pub powers : (k : ℕ) → k < 8 → getD (1 ∷ 2 ∷ 4 ∷ 8 ∷ 16 ∷ 32 ∷ 64 ∷ 128 ∷ []) k 0 ≡ 2 ^ k
-powers k h = eqb-true _ _ (each-below (λ k. eqb (getD (1 ∷ 2 ∷ 4 ∷ 8 ∷ 16 ∷ 32 ∷ 64 ∷ 128 ∷ []) k 0) (2 ^ k)) 8 k refl h)
+-- a bit that is shifted within a byte is a power of two
+pub powers : (k : ℕ) → k < 8 → (1 * 2 ^ k) % 2 ^ 8 ≡ 2 ^ k
+powers k h = eqb-true _ _ (each-below (λ k. eqb ((1 * 2 ^ k) % 2 ^ 8) (2 ^ k)) 8 k refl h)

@@ -4,15 +4,12 @@ ghost use mathlib.Core.Path.{_≡_};
 ghost use lib.ListN.{length};
 ghost use Rattle.grid.specs.Grid.{holds, Puts};
 
-// The powers of two.
-const POWERS: [u8; 8] = [1, 2, 4, 8, 16, 32, 64, 128];
-
 // The byte whose only bit is bit k.
 fn power(k: usize) -> u8
     requires { ⌜ k < 8 ⌝ }
     ensures { λ r. ⌜ r ≡ 2 ^ k ⌝ }
 {
-    POWERS[k]
+    1u8 << k
 }
 
 // Is the pair in the set?

@@ -8,4 +8,5 @@ power-spec =
     tie.close
     (tie.spec
     (λ c. search grid)
+    (λ c. search grid)
     (λ c. search grid))
