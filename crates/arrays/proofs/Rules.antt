@@ -1,6 +1,6 @@
 -- What `search` is handed to close what the functions leave.
 use borrow.Author.Needs.{needs}
-use Rattle.nodes.specs.Walks.{node-first, node-second, node-room, node-onward}
+use Rattle.nodes.specs.Reads.{node-first, node-second, node-room, node-onward}
 use Rattle.arrays.specs.Laws.{ends-array, ends-none, laying-begin, laying-item, laying-room, laying-less, laying-turn, laying-done, laying-same}
 use Rattle.arrays.proofs.Nodes.{coordinate-number, index-number, number-order, number-inside, pair-asked, pair-out, pair-wrote, coordinate-small, coordinate-quick, coordinate-wrote, index-quick, index-whole, index-wrote, triple-elements, pairs-done, vertex-done, null-wrote, value-is, value-wrote, leaf, deeper, nesting-start, nesting-same, nesting-item, nesting-index, nesting-room, nesting-fits, nesting-less}
 

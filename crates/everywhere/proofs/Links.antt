@@ -19,7 +19,7 @@ use Rattle.nodes.specs.Laws.{StringAt}
 use Rattle.everywhere.specs.Parts.{textAt}
 use Rattle.everywhere.specs.Laws.{other-text}
 use Rattle.everywhere.specs.Chains.{chainOf, kept, Link, Chained, end, link, Chains, ChainNode, InChain, ChainAt, ChainGives}
-use Rattle.nodes.specs.Walks.{string-first, string-second, string-some, string-fits, string-span, string-low}
+use Rattle.nodes.specs.Reads.{string-first, string-second, string-some, string-fits, string-span, string-low}
 
 -- what is left of a chain with the texts us, where the code has come to the node e
 record Rest (x t ls : List ℕ) (k e : ℕ) (us : List (List ℕ)) : Type 0 where

@@ -23,7 +23,7 @@ use Rattle.json.specs.Laws.{words}
 use Rattle.nodes.specs.Access.{isStringValue}
 use Rattle.nodes.specs.Faults.{fault, least}
 use Rattle.nodes.specs.Laws.{StringAt, quoted-at, string-at, rawOf, kinds, place-at}
-use Rattle.nodes.specs.Walks.{string-fits}
+use Rattle.nodes.specs.Reads.{string-fits}
 use Rattle.everywhere.specs.Parts.{Part, value, Stands, of-value, of-name, own5, AnyPart, PartGives}
 
 -- a part's three words

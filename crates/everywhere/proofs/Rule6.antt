@@ -23,7 +23,7 @@ use Rattle.nodes.specs.Laws.{quoted-at, kinds, fieldsOf, object-begin, no-field
 use Rattle.everywhere.specs.Parts.{Part, value, Stands, of-value, of-name, own6, AnyPart, PartGives, earlier, textAt, NameNode, Repeats, RepeatGives}
 use Rattle.everywhere.specs.Chains.{Chains, ChainAt, ChainGives, LongObject}
 use Rattle.everywhere.proofs.Links.{chains-begin}
-use Rattle.nodes.specs.Walks.{string-first, string-second, string-some, string-fits, string-span, string-low, Walk, walk-of, walk-on, walk-first, walk-second, walk-room, walk-onward, walk-some, walk-fits, walk-span, walk-less}
+use Rattle.nodes.specs.Reads.{string-first, string-second, string-some, string-fits, string-span, string-low, Walk, walk-of, walk-on, walk-first, walk-second, walk-room, walk-onward, walk-some, walk-fits, walk-span, walk-less}
 use Rattle.everywhere.proofs.Rule5.{any-first, any-third, any-onward, any-inside}
 
 -- is a text among the names of some members, in their order?

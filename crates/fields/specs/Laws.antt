@@ -14,7 +14,7 @@ use Rattle.strings.specs.Spans.{Span, decodeAt}
 use Rattle.json.specs.Tree.{Json}
 use Rattle.nodes.specs.Access.{isStringValue, textOf}
 use Rattle.nodes.specs.Says.{Node, Sought, Seeks, Finds, Gives, GivesFound}
-use Rattle.nodes.specs.Walks.{node-room, node-onward}
+use Rattle.nodes.specs.Reads.{node-room, node-onward}
 use Rattle.nodes.specs.Laws.{StringAt, rawOf, string-at, text-at}
 use Rattle.nodes.specs.declared.Found.{Found}
 use Rattle.nodes.specs.declared.Found.the-variants.{At, Nothing}

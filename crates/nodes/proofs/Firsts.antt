@@ -15,7 +15,7 @@ use Rattle.json.specs.Laws.{words}
 use Rattle.nodes.specs.Access.{isNullValue, isNumberValue, isStringValue, isArrayValue, isObjectValue}
 use Rattle.nodes.specs.Says.{Node, Gives}
 use Rattle.nodes.specs.Laws.{Kinds, kinds}
-use Rattle.nodes.specs.Walks.{node-room, node-first}
+use Rattle.nodes.specs.Reads.{node-room, node-first}
 
 -- a node starts within the text
 pub node-inside : {x t : List ℕ} {i p : ℕ} → Node x t i → p ≡ getD t i 0 → p < length x

@@ -18,7 +18,7 @@ use Rattle.nodes.specs.Access.{isArrayValue, isObjectValue, listed, elem
 use Rattle.nodes.specs.Says.{Node, Gives, Finds, Seeks}
 use Rattle.nodes.specs.declared.Found.the-variants.{At, Nothing}
 use Rattle.nodes.specs.Laws.{quoted-at, elements-begin, fields-begin, no-elements, no-members}
-use Rattle.nodes.specs.Walks.{node-room, node-first, node-onward, Walk, walk-of, walk-first, walk-second, walk-room, walk-onward, walk-some, walk-fits, walk-span, walk-less, walk-on}
+use Rattle.nodes.specs.Reads.{node-room, node-first, node-onward, Walk, walk-of, walk-first, walk-second, walk-room, walk-onward, walk-some, walk-fits, walk-span, walk-less, walk-on}
 use Rattle.nodes.proofs.Firsts.{node-inside}
 
 -- Counting: of the elements of the array at i, `found` stand before k

@@ -3,6 +3,6 @@ pub mod Faults
 pub mod Access
 pub mod Says
 pub mod Laws
-pub mod Walks
+pub mod Reads
 pub mod Walk
 pub mod Unique

@@ -1,6 +1,6 @@
 -- What `search` is handed to close what the functions leave.
 use borrow.Author.Needs.{needs}
-use Rattle.nodes.specs.Walks.{node-room, node-onward}
+use Rattle.nodes.specs.Reads.{node-room, node-onward}
 use Rattle.fields.specs.Laws.{at-node, at-room, at-onward, sought-in, string-node}
 use Rattle.ids.proofs.Rules.{member-onward, member-text, text-first, text-second, text-some, text-fits, text-span}
 use Rattle.arrays.specs.Laws.{laying-begin, laying-same, laying-item, laying-start, laying-room, laying-less, laying-turn}

@@ -1,6 +1,6 @@
 -- What the proofs of the functions over rows use.
 use borrow.Author.Needs.{needs}
-use Rattle.nodes.specs.Walks.{node-room, node-onward}
+use Rattle.nodes.specs.Reads.{node-room, node-onward}
 use Rattle.nodes.specs.Walk.{walk-node, walk-less}
 use Rattle.ids.proofs.Rules.{of-string}
 use Rattle.rows.proofs.Lists.{link-other, link-string, link-short, fits-node, listing-begin, listing-scaled, listing-onward, listing-turn, listing-done, listing-other, found-nothing, found-fits, found-at}

@@ -22,7 +22,7 @@ use Rattle.nodes.specs.Access.{isNumberValue, isStringValue, isArrayValue, isOb
 use Rattle.nodes.specs.Faults.{fault, least}
 use Rattle.nodes.specs.Says.{Node, Gives, Seeks}
 use Rattle.nodes.specs.declared.Found.{Found}
-use Rattle.nodes.specs.Walks.{node-room, node-second, node-first, node-onward}
+use Rattle.nodes.specs.Reads.{node-room, node-second, node-first, node-onward}
 use Rattle.nodes.specs.Laws.{place-at, text-at, numeral-at, elements-begin, fields-begin, no-elements, no-members, least-++, least-comm}
 use Rattle.shapes.specs.Checks.{Check, unless, all, at, forEach, eachElement, values, eachMember, objectKind, stringKind, numberKind, arrayKind, isSome, needs, text, numeral}
 use Rattle.shapes.specs.Shapes.{isIntegerValue}

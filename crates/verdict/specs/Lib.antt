@@ -1,6 +1,5 @@
 -- The verdict of a text.
 pub mod Verdict
 pub mod Examples
-pub mod RuleExamples
 pub mod Places
 pub mod Exact

@@ -1,7 +1,7 @@
 -- `everywhere::chained_in` meets its contract.
 use Prim.Native.Nat.{_-_}
 use native.Mathlib.Omega.{arith}
-use Rattle.nodes.specs.Walks.{walk-room}
+use Rattle.nodes.specs.Reads.{walk-room}
 use Rattle.everywhere.proofs.Rule5.{any-third}
 use Rattle.everywhere.proofs.Rule6.{Threads, threads}
 use Rattle.everywhere.proofs.chained_in.Statement.{statement}

@@ -3,7 +3,7 @@ use Prim.Native.Nat.{_-_, _≤_}
 use mathlib.Core.Path.{_≡_}
 use native.Mathlib.Omega.{arith}
 use lib.ListN.{length}
-use Rattle.nodes.specs.Walks.{walk-room}
+use Rattle.nodes.specs.Reads.{walk-room}
 use Rattle.everywhere.proofs.Rule6.{Sweeps, Any, sweeps}
 use Rattle.everywhere.proofs.repeated_in.Statement.{statement}
 use Rattle.everywhere.proofs.repeated_in.Tie as tie

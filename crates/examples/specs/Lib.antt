@@ -1,0 +1,2 @@
+-- Examples of the rules, decided by computation.
+pub mod Rules
