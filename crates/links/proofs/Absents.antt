@@ -1,20 +1,17 @@
 -- Rule 15 of the values of a list, one after the other: a set has the objects so far.
-use Prim.Native.Nat.{ℕ, suc, _+_, _-_, _*_, _≤_, _<_}
+use Prim.Native.Nat.{ℕ, _+_, _-_, _≤_, _<_}
 use native.Mathlib.Omega.{arith}
-use native.Mathlib.Numerals.{add-one}
 use mathlib.Core.Path.{_≡_, refl, sym, ap, _∙_}
-use mathlib.Core.Bool.{Bool, true, false, cond, not, _&&_}
-use mathlib.Core.List.{List, [], _∷_, _++_, map}
-use lib.ListN.{length, getD, drop, length-drop, length-map, replicate}
+use mathlib.Core.Bool.{Bool, true, false, not, _&&_}
+use mathlib.Core.List.{List, [], _∷_, _++_}
+use lib.ListN.{length, getD, replicate}
 use lib.Dec.{ltb}
-use borrow.Author.Tests.{not-true, not-false, ltb-true, ltb-false}
-use Rattle.grid.specs.Grid.{holds}
+use borrow.Author.Tests.{not-true, not-false, ltb-true}
 use Rattle.grid.specs.Laws.{empty}
 use Rattle.words.specs.Words.{has}
 use Rattle.json.specs.Tree.{Json}
-use Rattle.json.specs.Table.{Sub}
 use Rattle.model.specs.Model.{objectNumber}
-use Rattle.nodes.specs.Access.{isStringValue, isArrayValue, textOf, elements, members, Member, firstNamed}
+use Rattle.nodes.specs.Access.{isStringValue, isArrayValue, textOf, members, Member, firstNamed}
 use Rattle.everywhere.specs.Everywhere.{among}
 use Rattle.nodes.specs.Faults.{least}
 use Rattle.nodes.specs.Laws.{no-elements, least-++, fresh-zero, fresh-length}
@@ -22,12 +19,12 @@ use Rattle.nodes.specs.Says.{Node, Gives, Seeks}
 use Rattle.nodes.specs.declared.Found.{Found}
 use Rattle.nodes.specs.declared.Found.the-variants.{At, Nothing}
 use Rattle.shapes.specs.Checks.{unless, isSome}
-use Rattle.shapes.specs.Laws.{unless-true}
 use Rattle.ids.specs.Says.{namesOf}
 use Rattle.marks.specs.Says.{Row, MarkGives}
+use Rattle.marks.proofs.Numbers.{mark-told}
 use Rattle.rows.specs.Rows.{linkNumber}
 use Rattle.rules.specs.Links.{idsAmong}
-use Rattle.links.specs.Passes.{absentAt, absent, listedUnder}
+use Rattle.links.specs.Passes.{absentAt, absent}
 use Rattle.links.specs.Says.{numbersOf, AbsentGives, Sized, AbsentsGive, AbsentUnder}
 use Rattle.links.proofs.Numbers.{among-has, string-number, some-number, names-count}
 use Rattle.links.proofs.Lists.{Numbered, numbered-begin, numbered-word, numbered-node, numbered-next, numbered-less, numbered-turn, numbered-done, under-none, under-some}
@@ -67,22 +64,6 @@ module _ (ms : List Member) (earlier : List (List ℕ)) (v : Json) (z : isString
   unfolding numbersOf
   numbers-cons = rw (ids-string v z earlier, number-is)
 
--- a row of a set tells that too
-row-tells : {count : ℕ} (number : ℕ) {g : List ℕ} (ns : List ℕ) → Row count g 0 ns → (ltb number count && not (holds g 0 number)) ≡ (ltb number count && not (has ns number))
-row-tells {count} number {g} ns r = of (ltb number count) refl
-  where
-    of : (b : Bool) → ltb number count ≡ b → (b && not (holds g 0 number)) ≡ (b && not (has ns number))
-    of false e = refl
-    of true e = ap not (r .is number (ltb-true number count e))
-
-zero-true : (b : Bool) → _≡_ {A = ℕ} (cond b 0 1) 0 → b ≡ true
-zero-true true e = refl
-zero-true false e = absurd (omega arith)
-
-one-false : (b : Bool) → (_≡_ {A = ℕ} (cond b 0 1) 0 → ⊥) → b ≡ false
-one-false true e = absurd (e refl)
-one-false false e = refl
-
 module _ {x t : List ℕ} {k number count : ℕ} {b : Bool} {g : List ℕ} (s : Gives isStringValue x t k b) where
   pub absent-other : (best : ℕ) → not b ≡ true → AbsentGives x t k number count g g best best
   unfolding absentAt least
@@ -91,22 +72,16 @@ module _ {x t : List ℕ} {k number count : ℕ} {b : Bool} {g : List ℕ} (s : 
     is = λ ms q v w n earlier r. let z : isStringValue v ≡ false = sym (s .is v w) ∙ not-true b h in (rw z, rw (ids-other v z earlier) r);
   }
 
-  module _ {g′ : List ℕ} {m : ℕ} (h : not b ≡ false) (p : MarkGives g g′ 0 number count m) where
-    by : {best r : ℕ} (kept : Bool) → kept ≡ (ltb number count && not (holds g 0 number)) → Gives (λ v. least best (unless kept 15 v)) x t k r → AbsentGives x t k number count g g′ best r
-    by {best} kept e u = record {
-      room = p .beside .room;
-      is = λ ms q v w n earlier r.
-          let z : isStringValue v ≡ true = sym (s .is v w) ∙ not-false b h in
-          let c : kept ≡ (ltb (linkNumber (namesOf ms) v) (length ms) && not (has (numbersOf ms earlier) (linkNumber (namesOf ms) v)))
-          = e ∙ (row-tells number (numbersOf ms earlier) r ∙ rw (n, q) refl) in
-          (u .is v w ∙ (ap (λ b. least best (unless b 15 v)) c ∙ absent-is ms earlier v z best), rw (numbers-cons ms earlier v z, ← n) (p .puts (numbersOf ms earlier) r));
-    }
-
-    pub absent-bad : {best r : ℕ} → (m ≡ 0 → ⊥) → Gives (λ v. least best (unless false 15 v)) x t k r → AbsentGives x t k number count g g′ best r
-    absent-bad f u = by false (sym (one-false _ (λ e. f (p .is ∙ e)))) u
-
-    pub absent-new : (best : ℕ) → m ≡ 0 → AbsentGives x t k number count g g′ best best
-    absent-new best f = by true (sym (zero-true _ (sym (p .is) ∙ f))) (record { is = λ v w. unless-true best 15 v refl })
+  pub absent-told : {g′ : List ℕ} {kept : Bool} {best r : ℕ} → not b ≡ false → MarkGives g g′ 0 number count kept → Gives (λ v. least best (unless kept 15 v)) x t k r
+      → AbsentGives x t k number count g g′ best r
+  absent-told {kept = kept} {best} h p u = record {
+    room = p .beside .room;
+    is = λ ms q v w n earlier r.
+        let z : isStringValue v ≡ true = sym (s .is v w) ∙ not-false b h in
+        let c : kept ≡ (ltb (linkNumber (namesOf ms) v) (length ms) && not (has (numbersOf ms earlier) (linkNumber (namesOf ms) v)))
+        = mark-told p r ∙ rw (n, q) refl in
+        (u .is v w ∙ (ap (λ b. least best (unless b 15 v)) c ∙ absent-is ms earlier v z best), rw (numbers-cons ms earlier v z, ← n) (p .puts (numbersOf ms earlier) r));
+  }
 
 -- ---- a list
 

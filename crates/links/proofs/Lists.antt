@@ -1,10 +1,10 @@
 -- A loop over the values of a list beside the numbers of their objects, whatever it gathers: P ms all left says what holds of the list and of what is left of it.
 use Prim.Native.Nat.{ℕ, suc, _+_, _-_, _≤_, _<_}
 use native.Mathlib.Omega.{arith}
-use mathlib.Core.Path.{_≡_, refl, sym, ap, _∙_, subst}
+use mathlib.Core.Path.{_≡_, sym, ap, _∙_, subst}
 use mathlib.Core.Bool.{Bool, not, false}
 use mathlib.Core.List.{List, [], _∷_, map}
-use mathlib.Core.Option.{Option, none, some}
+use mathlib.Core.Option.{none}
 use lib.ListN.{length, getD, drop, length-drop, length-map}
 use Rattle.json.specs.Tree.{Json}
 use Rattle.json.specs.Table.{Sub}

@@ -3,7 +3,7 @@ use Prim.Native.Nat.{ℕ, _+_, _-_, _*_, _≤_, _<_}
 use Prim.Native.String.{String}
 use native.Mathlib.Omega.{arith}
 use mathlib.Core.Path.{_≡_, refl, sym, ap, _∙_}
-use mathlib.Core.Bool.{Bool, true, false, not, _&&_, _||_}
+use mathlib.Core.Bool.{Bool, true, false, not, _&&_}
 use mathlib.Core.List.{List, [], _∷_, _++_, map}
 use mathlib.Core.Option.{Option, none, some}
 use lib.ListN.{length, getD}
@@ -14,9 +14,8 @@ use Rattle.utf8.specs.Laws.{clash, both-left, both-right}
 use Rattle.grid.specs.Grid.{holds}
 use Rattle.words.specs.Words.{has, is}
 use Rattle.json.specs.Tree.{Json}
-use Rattle.json.specs.Table.{Sub}
 use Rattle.model.specs.Model.{objectNumber}
-use Rattle.nodes.specs.Access.{isStringValue, isArrayValue, textOf, elements, members, Member, firstNamed, find}
+use Rattle.nodes.specs.Access.{isStringValue, isArrayValue, textOf, members, Member, firstNamed, find}
 use Rattle.everywhere.specs.Everywhere.{among}
 use Rattle.nodes.specs.Faults.{least}
 use Rattle.nodes.specs.Laws.{no-elements, least-++}

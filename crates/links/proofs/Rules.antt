@@ -3,11 +3,11 @@ use borrow.Author.Needs.{needs}
 use Rattle.shapes.specs.Laws.{checking}
 use Rattle.fields.specs.Laws.{sought-in}
 use Rattle.links.proofs.Lists.{sized-node, under-node, under-sized}
-use Rattle.links.proofs.Absents.{absent-other, absent-bad, absent-new, listing-begin, listing-word, listing-node, listing-next, listing-less, listing-room, listing-turn, listing-done, listing-other, absent-nothing, absent-some}
-use Rattle.links.proofs.Opens.{open-other, open-told, opening-begin, opening-word, opening-node, opening-next, opening-less, opening-turn, opening-done, opening-other, open-nothing, open-some, children-excused, children-told}
+use Rattle.links.proofs.Absents.{absent-other, absent-told, listing-begin, listing-word, listing-node, listing-less, listing-room, listing-turn, listing-done, listing-other, absent-nothing, absent-some}
+use Rattle.links.proofs.Opens.{open-other, open-told, opening-begin, opening-word, opening-node, opening-less, opening-turn, opening-done, opening-other, open-nothing, open-some, children-excused, children-told}
 use Rattle.links.proofs.Sweeps.{sweep-begin, sweep-turn, sweep-done, row-of, listed-onward, listed-sized, object-absent, marked-once, marked-told, links-whole, links-few, links-row, links-onward, links-node, links-sized, children-answered, children-open, above-answered, parents-open, open-both, town-below, town-above, town-few, town-marks, marks-links, ready-town, links-given}
 
-pub ruleset absents = (checking, needs, absent-other, absent-bad, absent-new, under-node, under-sized, absent-nothing, absent-some)
+pub ruleset absents = (checking, needs, absent-other, absent-told, under-node, under-sized, absent-nothing, absent-some)
 
 pub ruleset listing = (checking, needs, sized-node, listing-begin, listing-word, listing-node, listing-less, listing-room, listing-turn, listing-done, listing-other)
 

@@ -6,7 +6,7 @@ use native.Mathlib.Numerals.{add-one}
 use mathlib.Core.Path.{_≡_, refl, sym, ap, _∙_}
 use mathlib.Core.Bool.{Bool, true, false, not, _&&_, and-true, and-false}
 use mathlib.Core.List.{List, [], _∷_, _++_, map}
-use mathlib.Core.Option.{Option, none, some}
+use mathlib.Core.Option.{none}
 use lib.ListN.{length, getD, take, drop, drop-of-length-le, length-map, replicate}
 use lib.Seq.{drop-cons, ext-getD, length-take-le}
 use lib.Dec.{eqb, ltb}
@@ -15,35 +15,33 @@ use mir.Val.{Fits}
 use mir.Syntax.{w64}
 use Rattle.utf8.specs.Ascii.{ascii}
 use Rattle.utf8.specs.Utf8.{same}
-use Rattle.utf8.specs.Laws.{both-left, both-right, clash, never}
+use Rattle.utf8.specs.Laws.{both-left, both-right}
 use Rattle.words.specs.Words.{objectWords, codeOf, has, is, isSecondLevel}
 use Rattle.grid.specs.Laws.{empty}
 use Rattle.json.specs.Tree.{Json}
-use Rattle.json.specs.Table.{Sub}
 use Rattle.model.specs.Code.{concatMap}
 use Rattle.model.specs.Model.{objectNumber}
-use Rattle.nodes.specs.Access.{isStringValue, nameOf, elements, Member, find, textOf, firstNamed}
+use Rattle.nodes.specs.Access.{isStringValue, nameOf, Member, find}
 use Rattle.nodes.specs.Faults.{least}
 use Rattle.nodes.specs.Laws.{least-++, fresh-zero, fresh-length}
 use Rattle.nodes.specs.Says.{Node, Seeks, Gives, GivesFound}
 use Rattle.nodes.specs.declared.Found.{Found}
-use Rattle.everywhere.specs.Everywhere.{among}
-use Rattle.everywhere.specs.Parts.{textAt}
-use Rattle.shapes.specs.Checks.{unless, isEmpty, isSome}
+use Rattle.shapes.specs.Checks.{unless, isEmpty}
 use Rattle.shapes.specs.Laws.{unless-true}
 use Rattle.fields.specs.Fields.{textIn, listedIn, typeText, objectsOf}
-use Rattle.ids.specs.Says.{Offsets, Objects, namesOf}
+use Rattle.ids.specs.Says.{Offsets, namesOf}
 use Rattle.ids.proofs.Rules.{nobody, name-text, object-node, object-value, member-onward}
 use Rattle.ids.proofs.Chains.{names-all, name-is}
+use Rattle.utf8.specs.Finite.{each-below}
 use Rattle.marks.specs.Marks.{rowOf, once, answered}
-use Rattle.marks.specs.Says.{Row, RowAt, Table, SetTo, Whole}
+use Rattle.marks.specs.Says.{RowAt, SetTo, Whole}
 use Rattle.marks.specs.Says as marks
 use Rattle.rows.specs.Rows.{linkNumber, linkNumbers}
 use Rattle.rows.specs.Says.{Listed}
 use Rattle.rules.specs.Links.{idsAmong, parentLink, linkFaults}
 use Rattle.links.specs.Passes.{absentAt, absent, listedUnder, absentUnder, openIn, openChildren, openParents}
 use Rattle.links.specs.Says.{numbersOf, SizedUnder, AbsentUnder, ListedAs, ObjectGives, AllGive, Fills, OtherSide, Links, OpenUnder, ChildrenOpen, ParentGives, OpenFaults, Empty, Town, Marks, LinkFaults, Ready, LinksGive}
-use Rattle.links.proofs.Numbers.{among-has, string-number, other-number, some-number, names-count}
+use Rattle.links.proofs.Numbers.{other-number, names-count}
 use Rattle.links.proofs.Absents.{absent-is, numbers-cons}
 use Rattle.links.proofs.Split.{split-objects, excused-none}
 use Rattle.links.proofs.Opens.{answered-none}
@@ -146,7 +144,7 @@ none-each best f (m ∷ ms) h =
     none-each best f ms (λ k l. h (suc k) (omega arith)) ∙ (ap (λ (n : ℕ). least n (concatMap f ms)) (h 0 (omega arith)) ∙ sym (least-++ best (f m) (concatMap f ms)))
 
 -- the set of a table whose rows have each number once
-module _ {x t offsets name rows : List ℕ} {g g′ : List ℕ} (d : ListedAs x t offsets name rows) (e : Empty g (length offsets)) {bad : ℕ} (m : marks.AllGive rows g g′ (length offsets) bad) where
+module _ {x t offsets name rows : List ℕ} {g g′ : List ℕ} (d : ListedAs x t offsets name rows) (e : Empty g (length offsets)) {good : Bool} (m : marks.AllGive rows g g′ (length offsets) good) where
   begin : SetTo rows g (length offsets) 0
   unfolding has
   begin = record { done = λ j l. absurd (omega arith); left = λ j l h. record { is = λ n c. empty g (e .clear) j n } }
@@ -164,13 +162,13 @@ module _ {x t offsets name rows : List ℕ} {g g′ : List ℕ} (d : ListedAs x 
         rw (← u, ← o .all) (m .set begin .done n h);
   }
 
-  pub marked-once : (best : ℕ) → bad ≡ 0 → Fills x t offsets name g g′ best best
+  pub marked-once : (best : ℕ) → good ≡ true → Fills x t offsets name g g′ best best
   unfolding absentUnder numbersOf
   marked-once best z = record {
     faults = record {
       is = λ ms o. none-each best (absentUnder name ms) ms (λ k l.
           let h : k < length offsets = omega (arith, o .all) in
-          once-none best ms [] (listedUnder name (getD ms k nobody .1)) (rw (← numbers-are d h refl ms o nobody, ← o .all) (m .once begin z k h)));
+          once-none best ms [] (listedUnder name (getD ms k nobody .1)) (rw (← numbers-are d h refl ms o nobody, ← o .all) (each-below _ (length offsets) k (sym (m .is begin) ∙ z) h)));
     };
     room = m .room;
     set = side;

@@ -29,10 +29,14 @@ fn absent(
     if !nodes::is_string(text, table, k) {
         return best;
     }
-    if marks::mark(seen, 0, number, count) != 0 {
-        return shapes::unless(false, 15, text, table, k, best);
-    }
-    best
+    shapes::unless(
+        marks::mark(seen, 0, number, count),
+        15,
+        text,
+        table,
+        k,
+        best,
+    )
 }
 
 // Rule 15 of the list at node i, of which the numbers are those of its objects.
@@ -138,7 +142,7 @@ fn mark_all(
     requires { ⌜ (ListedAs (now text) (now table) (now offsets) (now name) (now rows)) × (Empty (now set) (length (now offsets))) ⌝ }
     ensures { λ r. ⌜ Fills (now (text .entry)) (now (table .entry)) (now (offsets .entry)) (now (name .entry)) (now (set .entry)) (now (set .exit)) best r ⌝ }
 {
-    if marks::mark_all(set, rows, offsets.len()) == 0 {
+    if marks::mark_all(set, rows, offsets.len()) {
         return best;
     }
     absent_all(text, table, offsets, name, rows, best)

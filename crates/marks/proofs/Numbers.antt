@@ -3,7 +3,7 @@ use Prim.Native.Nat.{ℕ, _+_, _-_, _*_, _≤_, _<_}
 use native.Mathlib.Omega.{arith}
 use native.Mathlib.Numerals.{add-one}
 use mathlib.Core.Path.{_≡_, refl, sym, ap, _∙_}
-use mathlib.Core.Bool.{Bool, true, false, cond, not, _&&_, _||_, or-true, or-false}
+use mathlib.Core.Bool.{Bool, true, false, not, _&&_, _||_, or-true, or-false, and-true}
 use mathlib.Core.List.{List, [], _∷_}
 use lib.ListN.{length, getD, drop, drop-of-length-le}
 use lib.Seq.{drop-cons}
@@ -52,85 +52,82 @@ module _ {count : ℕ} {g : List ℕ} {row number : ℕ} where
       of n l false e = rw (ne-eqb number n (λ z. eqb-false n number e (sym z))) (r .is n l)
 
   -- no object has the number
-  pub mark-absent : count ≤ number → MarkGives g g row number count 1
-  mark-absent h = record { beside = beside-same g row; puts = λ earlier r. row-absent h r; few = omega arith; is = rw (le-ltb number count h) }
+  pub mark-absent : count ≤ number → MarkGives g g row number count false
+  mark-absent h = record { beside = beside-same g row; puts = λ earlier r. row-absent h r; is = rw (le-ltb number count h) }
 
   module _ {f : Bool} (i : f ≡ holds g row number) (l : number < count) where
     -- the row has it
-    pub mark-again : f ≡ true → MarkGives g g row number count 1
-    mark-again q = record { beside = beside-same g row; puts = λ earlier r. row-again (sym i ∙ q) r; few = omega arith; is = rw (lt-ltb number count l, ← i, q) }
+    pub mark-again : f ≡ true → MarkGives g g row number count false
+    mark-again q = record { beside = beside-same g row; puts = λ earlier r. row-again (sym i ∙ q) r; is = rw (lt-ltb number count l, ← i, q) }
 
     -- it is put in
-    pub mark-new : {g′ : List ℕ} → f ≡ false → Puts g g′ row number → row * 128 + 128 ≤ length g → count ≤ 1024 → MarkGives g g′ row number count 0
-    mark-new q p h c = record { beside = beside-put p; puts = λ earlier r. row-new p h c r; few = omega arith; is = rw (lt-ltb number count l, ← i, q) }
+    pub mark-new : {g′ : List ℕ} → f ≡ false → Puts g g′ row number → row * 128 + 128 ≤ length g → count ≤ 1024 → MarkGives g g′ row number count true
+    mark-new q p h c = record { beside = beside-put p; puts = λ earlier r. row-new p h c r; is = rw (lt-ltb number count l, ← i, q) }
 
--- what 0 tells
-pub mark-none : {g g′ : List ℕ} {row number count r : ℕ} → MarkGives g g′ row number count r → r ≡ 0 → (number < count) × (holds g row number ≡ false)
-mark-none {g} {row = row} {number} {count} m z = of (ltb number count) (holds g row number) refl refl (sym (m .is) ∙ z)
+-- what it tells, where the row has just the earlier numbers
+pub mark-told : {g g′ : List ℕ} {row number count : ℕ} {r : Bool} {earlier : List ℕ} → MarkGives g g′ row number count r → Row count g row earlier
+    → r ≡ (ltb number count && not (has earlier number))
+mark-told {g} {row = row} {number} {count} {earlier = earlier} m p = m .is ∙ of (ltb number count) refl
   where
-    of : (a b : Bool) → ltb number count ≡ a → holds g row number ≡ b → _≡_ {A = ℕ} (cond (a && not b) 0 1) 0 → (number < count) × (holds g row number ≡ false)
-    of true false p q e = (ltb-true number count p, q)
-    of true true p q e = absurd (omega arith)
-    of false b p q e = absurd (omega arith)
+    of : (b : Bool) → ltb number count ≡ b → (b && not (holds g row number)) ≡ (b && not (has earlier number))
+    of true e = ap not (p .is number (ltb-true number count e))
+    of false e = refl
 
 -- ---- a row
+
+pub and-group : (a b c : Bool) → ((a && b) && c) ≡ (a && (b && c))
+and-group true b c = refl
+and-group false b c = refl
 
 swap : (a b c : Bool) → ((a || b) || c) ≡ (b || (a || c))
 swap true b c = sym (or-true b)
 swap false b c = refl
 
--- after the numbers `earlier` the row is right, and what holds of the numbers left holds of all
-record Rest (count row : ℕ) (ns g : List ℕ) (j bad : ℕ) : Type 0 where
+-- after the numbers `earlier` the row is right, and what holds of those and of the numbers left holds of all
+record Rest (count row : ℕ) (ns g : List ℕ) (j : ℕ) (good : Bool) : Type 0 where
   earlier : List ℕ
   right : Row count g row earlier
-  rest : bad ≡ 0 → once count [] ns ≡ once count earlier (drop j ns)
+  rest : (good && once count earlier (drop j ns)) ≡ once count [] ns
   all : (n : ℕ) → (has earlier n || has (drop j ns) n) ≡ has ns n
 
 -- what the loop over the numbers ns knows where it has come to the j-th
-pub record Marking (count row : ℕ) (ns g₀ g : List ℕ) (j bad : ℕ) : Type 0 where
+pub record Marking (count row : ℕ) (ns g₀ g : List ℕ) (j : ℕ) (good : Bool) : Type 0 where
   pub beside : Beside g₀ g row
-  pub few : bad ≤ j
-  within : j ≤ length ns
-  of : Row count g₀ row [] → Rest count row ns g j bad
+  of : Row count g₀ row [] → Rest count row ns g j good
 
-pub marking-begin : (count row : ℕ) (ns g₀ : List ℕ) → Marking count row ns g₀ g₀ 0 0
+pub marking-begin : (count row : ℕ) (ns g₀ : List ℕ) → Marking count row ns g₀ g₀ 0 true
 unfolding has
-marking-begin count row ns g₀ = record { beside = beside-same g₀ row; few = omega arith; within = omega arith; of = λ r. record { earlier = []; right = r; rest = λ z. refl; all = λ n. refl } }
+marking-begin count row ns g₀ = record { beside = beside-same g₀ row; of = λ r. record { earlier = []; right = r; rest = refl; all = λ n. refl } }
 
-once-step : (count n : ℕ) (earlier ns : List ℕ) → n < count → has earlier n ≡ false → once count earlier (n ∷ ns) ≡ once count (n ∷ earlier) ns
-unfolding once
-once-step count n earlier ns l h = rw (lt-ltb n count l, h)
-
-module _ {count row : ℕ} {ns g₀ g : List ℕ} {j bad : ℕ} (p : Marking count row ns g₀ g j bad) where
+module _ {count row : ℕ} {ns g₀ g : List ℕ} {j : ℕ} {good : Bool} (p : Marking count row ns g₀ g j good) where
   pub marking-room : row * 128 + 128 ≤ length g₀ → row * 128 + 128 ≤ length g
   marking-room h = omega (arith, p .beside .room)
 
-  pub marking-turn : {number r : ℕ} {g′ : List ℕ} → j < length ns → number ≡ getD ns j 0 → MarkGives g g′ row number count r → Marking count row ns g₀ g′ (j + 1) (bad + r)
-  unfolding has
+  pub marking-turn : {number : ℕ} {r : Bool} {g′ : List ℕ} → j < length ns → number ≡ getD ns j 0 → MarkGives g g′ row number count r
+      → Marking count row ns g₀ g′ (j + 1) (good && r)
+  unfolding has once
   marking-turn {number} {r} l q m = record {
     beside = beside-then (p .beside) (m .beside);
-    few = omega (arith, p .few, m .few);
-    within = omega arith;
     of = λ e.
         let u = p .of e in
         let c : drop j ns ≡ number ∷ drop (j + 1) ns = rw q (number-cons ns j l) in
         record {
           earlier = number ∷ u .earlier;
           right = m .puts (u .earlier) (u .right);
-          rest = λ z.
-              let (low, new) = mark-none m (omega arith) in
-              u .rest (omega arith) ∙ (ap (once count (u .earlier)) c ∙ once-step count number (u .earlier) (drop (j + 1) ns) low (sym (u .right .is number low) ∙ new));
+          rest =
+              and-group good r _
+              ∙ (ap (λ b. good && (b && once count (number ∷ u .earlier) (drop (j + 1) ns))) (mark-told m (u .right))
+              ∙ (ap (λ k. good && once count (u .earlier) k) (sym c) ∙ u .rest));
           all = λ n. swap (eqb number n) (has (u .earlier) n) (has (drop (j + 1) ns) n) ∙ (ap (λ (k : List ℕ). has (u .earlier) n || has k n) (sym c) ∙ u .all n);
         };
   }
 
-  pub marked : length ns ≤ j → RowGives g₀ g row ns count bad
+  pub marked : length ns ≤ j → RowGives g₀ g row ns count good
   unfolding has once
   marked h = record {
     beside = p .beside;
-    few = omega (arith, p .few, p .within);
     puts = λ e. let u = p .of e in record { is = λ n l. u .right .is n l ∙ (sym (or-false (has (u .earlier) n)) ∙ (ap (λ (k : List ℕ). has (u .earlier) n || has k n) (sym none) ∙ u .all n)) };
-    once = λ e z. let u = p .of e in u .rest z ∙ ap (once count (u .earlier)) none;
+    is = λ e. let u = p .of e in sym (and-true good) ∙ (ap (λ k. good && once count (u .earlier) k) (sym none) ∙ u .rest);
   }
     where
       none : drop j ns ≡ []

@@ -1,16 +1,18 @@
 -- The rows of a table put one by one into a set.
 use Prim.Native.Nat.{ℕ, zero, suc, _+_, _-_, _*_, _≤_, _<_}
 use native.Mathlib.Omega.{arith}
+use native.Mathlib.Numerals.{add-one}
 use mathlib.Core.Path.{_≡_, refl, sym, ap, _∙_}
-use mathlib.Core.Bool.{Bool, true, false}
+use mathlib.Core.Bool.{Bool, true, false, _&&_, and-true}
 use mathlib.Core.List.{List, [], _∷_}
 use lib.ListN.{length, getD, take, drop}
-use lib.Seq.{slice, length-slice, take-nil}
+use lib.Seq.{slice, take-nil}
 use lib.Dec.{eqb}
 use borrow.Author.Tests.{eqb-true, eqb-false}
-use Rattle.marks.specs.Marks.{rowOf}
-use Rattle.marks.specs.Marks as marks
+use Rattle.utf8.specs.Finite.{allFrom}
+use Rattle.marks.specs.Marks.{rowOf, once}
 use Rattle.marks.specs.Says.{Row, Beside, RowGives, RowAt, Table, SetTo, AllGive}
+use Rattle.marks.proofs.Numbers.{and-group}
 
 -- ---- where a row stands
 
@@ -59,40 +61,34 @@ rows-more {rows} {g} {g′} {count} {k} r b l few h f = record {
     of j m false e = let z : j ≡ k → ⊥ = eqb-false j k e in row-kept b z (omega arith) few (r .done j (below j m z))
 
 -- what the loop over the rows knows where it has come to the k-th
-pub record Filling (rows g₀ g : List ℕ) (count k bad : ℕ) : Type 0 where
+pub record Filling (rows g₀ g : List ℕ) (count k : ℕ) (good : Bool) : Type 0 where
   pub room : length g ≡ length g₀
-  pub few : bad ≤ k * 65535
   within : k ≤ count
   set : SetTo rows g₀ count 0 → SetTo rows g count k
-  once : SetTo rows g₀ count 0 → bad ≡ 0 → (j : ℕ) → j < k → marks.once count [] (rowOf rows j) ≡ true
+  is : SetTo rows g₀ count 0 → (good && allFrom (λ k. once count [] (rowOf rows k)) k (count - k)) ≡ allFrom (λ k. once count [] (rowOf rows k)) 0 count
 
-pub filling-begin : (rows g₀ : List ℕ) (count : ℕ) → Filling rows g₀ g₀ count 0 0
-filling-begin rows g₀ count = record { room = refl; few = omega arith; within = omega arith; set = λ s. s; once = λ s z j l. absurd (omega arith) }
+pub filling-begin : (rows g₀ : List ℕ) (count : ℕ) → Filling rows g₀ g₀ count 0 true
+filling-begin rows g₀ count = record { room = refl; within = omega arith; set = λ s. s; is = λ s. let z : count - 0 ≡ count = omega arith in rw z }
 
-module _ {rows g₀ g : List ℕ} {count k bad : ℕ} (p : Filling rows g₀ g count k bad) where
+module _ {rows g₀ g : List ℕ} {count k : ℕ} {good : Bool} (p : Filling rows g₀ g count k good) where
   pub filling-room : count * 128 ≤ length g₀ → k < count → k * 128 + 128 ≤ length g
   filling-room h l = omega (arith, p .room)
 
-  module _ (t : Table rows count) (l : k < count) {ns : List ℕ} (e : ns ≡ rowOf rows k) {g′ : List ℕ} {r : ℕ} (m : RowGives g g′ k ns count r) where
-    short : length ns ≤ 65535
-    unfolding rowOf
-    short = let d = t .row k l in rw e (omega (arith, length-slice (getD rows k 0) (getD rows (k + 1) 0) rows (d .within), d .within, t .short))
+  pub filling-turn : k < count → {ns : List ℕ} → ns ≡ rowOf rows k → {g′ : List ℕ} {r : Bool} → RowGives g g′ k ns count r → count ≤ 1024 → count * 128 ≤ length g₀
+      → Filling rows g₀ g′ count (k + 1) (good && r)
+  filling-turn l e {r = r} m c h = record {
+    room = m .beside .room ∙ p .room;
+    within = omega arith;
+    set = λ s. rows-more (p .set s) (m .beside) l c (omega (arith, p .room)) (rw (← e) (m .puts (p .set s .left k (omega arith) l)));
+    is = λ s.
+        let z : count - k ≡ suc (count - suc k) = omega arith in
+        and-group good r _
+        ∙ (ap (λ b. good && (b && allFrom (λ k. once count [] (rowOf rows k)) (k + 1) (count - (k + 1)))) (m .is (p .set s .left k (omega arith) l) ∙ ap (once count []) e)
+        ∙ rw (add-one k) (rw z at (p .is s)));
+  }
 
-    pub filling-few : bad + r ≤ (k + 1) * 65535
-    filling-few = omega (arith, p .few, m .few, short)
-
-    pub filling-turn : count ≤ 1024 → count * 128 ≤ length g₀ → Filling rows g₀ g′ count (k + 1) (bad + r)
-    filling-turn c h = record {
-      room = m .beside .room ∙ p .room;
-      few = filling-few;
-      within = omega arith;
-      set = λ s. rows-more (p .set s) (m .beside) l c (omega (arith, p .room)) (rw (← e) (m .puts (p .set s .left k (omega arith) l)));
-      once = λ s z j n. of s z j n (eqb j k) refl;
-    }
-      where
-        of : SetTo rows g₀ count 0 → bad + r ≡ 0 → (j : ℕ) → j < k + 1 → (b : Bool) → eqb j k ≡ b → marks.once count [] (rowOf rows j) ≡ true
-        of s z j n true q = rw (eqb-true j k q, ← e) (m .once (p .set s .left k (omega arith) l) (omega arith))
-        of s z j n false q = let u : j ≡ k → ⊥ = eqb-false j k q in p .once s (omega arith) j (omega (arith, u))
-
-  pub filling-done : count ≤ k → AllGive rows g₀ g count bad
-  filling-done h = let z : k ≡ count = omega (arith, p .within) in record { room = p .room; set = λ s. rw z at (p .set s); once = λ s y j n. p .once s y j (omega arith) }
+  pub filling-done : count ≤ k → AllGive rows g₀ g count good
+  filling-done h =
+      let z : k ≡ count = omega (arith, p .within) in
+      let y : count - k ≡ 0 = omega arith in
+      record { room = p .room; set = λ s. rw z at (p .set s); is = λ s. sym (and-true good) ∙ rw y at (p .is s) }

@@ -32,47 +32,47 @@ pub fn row(rows: &[u16], k: usize) -> &[u16]
     &rows[from..to]
 }
 
-// Puts the number of a listed object into a row of the set. It is 1 if no object has the number or the row has it already, otherwise 0.
-pub fn mark(set: &mut [u8], row: usize, number: usize, count: usize) -> usize
+// Puts the number of a listed object into a row of the set. Is it the number of an object, and was it not there?
+pub fn mark(set: &mut [u8], row: usize, number: usize, count: usize) -> bool
     requires { ⌜ (row * 128 + 128 ≤ length (now set)) × (count ≤ 1024) ⌝ }
     ensures { λ r. ⌜ MarkGives (now (set .entry)) (now (set .exit)) row number count r ⌝ }
 {
     if number >= count {
-        return 1;
+        return false;
     }
     if grid::has(set, row, number) {
-        return 1;
+        return false;
     }
     grid::put(set, row, number);
-    0
+    true
 }
 
-// Puts the numbers of a row of the table into a row of the set. How many of them are 1 by `mark`.
-fn mark_row(set: &mut [u8], row: usize, numbers: &[u16], count: usize) -> usize
+// Puts the numbers of a row of the table into a row of the set. Is it so for each of them?
+fn mark_row(set: &mut [u8], row: usize, numbers: &[u16], count: usize) -> bool
     requires { ⌜ (row * 128 + 128 ≤ length (now set)) × (count ≤ 1024) ⌝ }
     ensures { λ r. ⌜ RowGives (now (set .entry)) (now (set .exit)) row (now (numbers .entry)) count r ⌝ }
 {
-    let mut bad = 0;
+    let mut good = true;
     let mut j = 0;
     while j < numbers.len() {
-        bad += mark(set, row, word(numbers, j), count);
+        good = good & mark(set, row, word(numbers, j), count);
         j += 1;
     }
-    bad
+    good
 }
 
-// Puts the numbers of all rows of the table into the set. How many of them are 1 by `mark`.
-pub fn mark_all(set: &mut [u8], rows: &[u16], count: usize) -> usize
+// Puts the numbers of all rows of the table into the set. Is it so for each of them?
+pub fn mark_all(set: &mut [u8], rows: &[u16], count: usize) -> bool
     requires { ⌜ (count * 128 ≤ length (now set)) × (count ≤ 1024) × (Table (now rows) count) ⌝ }
     ensures { λ r. ⌜ AllGive (now (rows .entry)) (now (set .entry)) (now (set .exit)) count r ⌝ }
 {
-    let mut bad = 0;
+    let mut good = true;
     let mut k = 0;
     while k < count {
-        bad += mark_row(set, k, row(rows, k), count);
+        good = good & mark_row(set, k, row(rows, k), count);
         k += 1;
     }
-    bad
+    good
 }
 
 // Has the set, which has a row for each object, the pair (other, own)?

@@ -229,7 +229,6 @@ module _ {x t offsets ws rows₀ rows : List ℕ} {k at : ℕ} (f : Filling x t 
               ordered = omega (arith, head ms o j (omega arith), head ms o (j + 1) (omega arith), begin-later word ms j (j + 1) (omega arith));
               within = omega (arith, n, head ms o (j + 1) (omega arith), count-most word ms (j + 1), room, o .all);
             };
-            short = omega (arith, n, f .asked .room .short);
           };
           is = λ ms o j d l.
               let same : listedIn word (getD ms j d .1) ≡ listedIn name (getD ms j d .1) =

@@ -12,6 +12,4 @@ absent-spec =
     (λ c κs. search absents)
     (λ c κs. search absents)
     (λ c. search absents)
-    (λ c. search absents)
-    (λ c. search absents)
     (λ c. search absents))

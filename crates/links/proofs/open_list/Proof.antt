@@ -1,7 +1,7 @@
 -- `links::open_list` meets its contract.
 use Prim.Native.Nat.{_-_}
 use native.Mathlib.Omega.{arith}
-use Rattle.links.proofs.Opens.{Opening, opening-word, opening-next, opening-turn}
+use Rattle.links.proofs.Opens.{Opening, opening-word, opening-next}
 use Rattle.links.proofs.Rules.{opening}
 use Rattle.links.proofs.open_list.Statement.{statement}
 use Rattle.links.proofs.open_list.Tie as tie

@@ -1,6 +1,5 @@
 -- `marks::answered` meets its contract.
 use Prim.Native.Nat.{_-_}
-use native.Mathlib.Omega.{arith}
 use lib.ListN.{length}
 use Rattle.marks.proofs.Numbers.{Asking, asking-turn}
 use Rattle.marks.proofs.Rules.{asking}

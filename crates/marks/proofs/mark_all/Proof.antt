@@ -1,16 +1,15 @@
 -- `marks::mark_all` meets its contract.
 use Prim.Native.Nat.{_-_}
-use native.Mathlib.Omega.{arith}
 use Rattle.marks.proofs.Sets.{Filling}
 use Rattle.marks.proofs.Rules.{filling}
 use Rattle.marks.proofs.mark_all.Statement.{statement}
 use Rattle.marks.proofs.mark_all.Tie as tie
 
 abbrev Inv-loop : tie.InvT-loop
-Inv-loop set₀ rows count bad₀ k₀ set bad k = Filling rows set₀ set count k bad
+Inv-loop set₀ rows count good₀ k₀ set good k = Filling rows set₀ set count k good
 
 abbrev μ-loop : tie.MeasureT-loop
-μ-loop set₀ rows count bad₀ k₀ set bad k = count - k
+μ-loop set₀ rows count good₀ k₀ set good k = count - k
 
 pub mark-all-spec : {M : Type 1} → statement M
 mark-all-spec =
@@ -23,7 +22,6 @@ mark-all-spec =
     (λ c κs. search filling)
     (λ c. search filling)
     (λ c. search filling)
-    (λ c. search filling)
-    (λ c. search filling)
+    (λ c. search (filling, c .before .before .mark-row .ensures))
     (λ c. search filling)
     (λ c. search filling))

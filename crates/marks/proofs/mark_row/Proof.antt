@@ -1,6 +1,5 @@
 -- `marks::mark_row` meets its contract.
 use Prim.Native.Nat.{_-_}
-use native.Mathlib.Omega.{arith}
 use lib.ListN.{length}
 use Rattle.marks.proofs.Numbers.{Marking}
 use Rattle.marks.proofs.Rules.{marking}
@@ -8,10 +7,10 @@ use Rattle.marks.proofs.mark_row.Statement.{statement}
 use Rattle.marks.proofs.mark_row.Tie as tie
 
 abbrev Inv-loop : tie.InvT-loop
-Inv-loop set₀ row numbers count bad₀ j₀ set bad j = Marking count row numbers set₀ set j bad
+Inv-loop set₀ row numbers count good₀ j₀ set good j = Marking count row numbers set₀ set j good
 
 abbrev μ-loop : tie.MeasureT-loop
-μ-loop set₀ row numbers count bad₀ j₀ set bad j = length numbers - j
+μ-loop set₀ row numbers count good₀ j₀ set good j = length numbers - j
 
 pub mark-row-spec : {M : Type 1} → statement M
 mark-row-spec =
@@ -24,7 +23,6 @@ mark-row-spec =
     (λ c κs. search marking)
     (λ c. search marking)
     (λ c. search marking)
-    (λ c. search marking)
-    (λ c. search marking)
+    (λ c. search (marking, c .before .before .mark .ensures))
     (λ c. search marking)
     (λ c. search marking))
