@@ -1,5 +1,4 @@
 -- Sample readings of document 01 that rules 3 and 4 decide, by computation.
-use Prim.Native.Nat.{ℕ}
 use mathlib.Core.Path.{_≡_, refl}
 use mathlib.Core.List.{[]}
 use lib.ListN.{replicate}

@@ -26,7 +26,7 @@ use Rattle.parser.specs.declared.Walk.{Walk}
 use Rattle.parser.specs.declared.Walk.the-variants as walk
 use Rattle.json.specs.declared.Parsed.the-variants as parsed
 use Rattle.json.proofs.Moves.{at-end, moves, dies, deepens, alike, short, stays-none}
-use Rattle.json.proofs.Leaves.{words-of}
+use Rattle.scalars.proofs.Leaves.{words-of}
 use Rattle.parser.proofs.Nodes.{atom-fits}
 
 -- what the call told of a value that was read

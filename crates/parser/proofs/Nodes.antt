@@ -21,7 +21,7 @@ use Rattle.json.specs.Steps.{name-quote, name-no, colon-yes, colon-no}
 use Rattle.json.specs.Laws.{over-blank}
 use Rattle.json.proofs.Moves.{moves, dies, short, stays-none}
 use Rattle.json.proofs.Parts.{string-start, string-run, string-shut}
-use Rattle.json.proofs.Leaves.{quoted-of, scalar-string}
+use Rattle.scalars.proofs.Leaves.{quoted-of, scalar-string}
 use Rattle.parser.specs.Says.{Fits, Wrote, Quote, Ready, Atom, Colons, Names, Begins, Follows}
 use Rattle.parser.specs.declared.Next.the-variants as next
 use Rattle.parser.specs.declared.Walk.the-variants as walk

@@ -39,7 +39,7 @@ fn atom(text: &[u8], at: usize, table: &mut [u32], n: usize) -> Walk
     requires { ⌜ (Plain (now text) at) × (Ready (now text) (now table) at 0 32 n) ⌝ }
     ensures { λ r. ⌜ Atom (now (text .entry)) (now (table .entry)) (now (table .exit)) at n r ⌝ }
 {
-    let r = json::scalar(text, at);
+    let r = scalars::scalar(text, at);
     match r {
         json::Scan::Bad(q) => Walk::Bad(q),
         json::Scan::End(e) => {
@@ -200,7 +200,7 @@ fn element(text: &[u8], at: usize, levels: usize, table: &mut [u32], n: usize) -
     requires { ⌜ Ready (now text) (now table) at levels 32 n ⌝ }
     ensures { λ r. ⌜ Told (now (text .entry)) (now (table .entry)) (now (table .exit)) want at levels 32 n r ⌝ }
 {
-    let e = json::digits_end(text, at);
+    let e = scalars::digits_end(text, at);
     if e != at {
         put_node(table, n, at, e, n + 3);
         return Walk::Read(e, n + 3);

@@ -28,7 +28,7 @@ use Rattle.parser.proofs.value.Kinds as value-kinds
 use Rattle.parser.proofs.+array+element+item+member+object+value.Lts-value as value-lts
 use Rattle.parser.proofs.after.Reads as after-reads
 use Rattle.parser.proofs.atom.Reads as atom-reads
-use Rattle.json.proofs.digits_end.Reads as digits-end-reads
+use Rattle.scalars.proofs.digits_end.Reads as digits-end-reads
 use Rattle.parser.proofs.member_name.Reads as member-name-reads
 use Rattle.parser.proofs.opening.Reads as opening-reads
 use Rattle.parser.proofs.put_node.Reads as put-node-reads

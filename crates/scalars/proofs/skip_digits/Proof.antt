@@ -1,10 +1,10 @@
--- `json::skip_digits` meets its contract.
+-- `scalars::skip_digits` meets its contract.
 use Prim.Native.Nat.{_-_}
 use lib.ListN.{length}
 use Rattle.json.specs.Says.{Stays, digital}
-use Rattle.json.proofs.Rules.{lexes}
-use Rattle.json.proofs.skip_digits.Statement.{statement}
-use Rattle.json.proofs.skip_digits.Tie as tie
+use Rattle.scalars.proofs.Rules.{lexes}
+use Rattle.scalars.proofs.skip_digits.Statement.{statement}
+use Rattle.scalars.proofs.skip_digits.Tie as tie
 
 abbrev Inv-loop : tie.InvT-loop
 Inv-loop text at i₀ i = Stays digital text at i

@@ -10,18 +10,18 @@ use lib.ListN.{length, getD}
 use lib.Seq.{slice}
 use borrow.Author.Tests.{ne-eqb}
 use Rattle.utf8.specs.Ascii.{ascii, isDigit}
 use Rattle.json.specs.Tree.{Json}
 use Rattle.json.specs.Tree as tree
 use Rattle.json.specs.Machine.{Frame, Mode, value, step, go, isBlank}
 use Rattle.json.specs.Machine.Mode.{want, neg, nought, int, mant, chars}
 use Rattle.json.specs.Table.{size, Words, Quoted, isNumeric, Sub, null, bool, num, str}
-use Rattle.json.specs.Says.{Reads, Skips, digital, numbered, charsOf, closedOf, ReadsString, WordAt, literalOf, ReadsWord, Placed, Leaf, Scalar, Digits}
+use Rattle.json.specs.Says.{Reads, Skips, digital, numbered, charsOf, closedOf, ReadsString, WordAt, literalOf, ReadsWord, Placed, Scalar, Digits}
 use Rattle.json.specs.declared.Scan.{Scan}
 use Rattle.json.specs.declared.Scan.the-variants.{End, Bad}
 use Rattle.json.specs.Steps.{nought-else, want-quote, want-minus, want-0, want-digit, want-t, want-f, want-n, want-no}
 use Rattle.json.specs.Laws.{over-blank, is-digit, under-digit, over-digit}
 use Rattle.json.proofs.Moves.{moves, dies}
 use Rattle.json.proofs.Parts.{looks, int-digits, mant-done}
 
 pub words-of : {x t : List ℕ} {i p e b n : ℕ} → Placed t i p e n → p < e → e ≤ length x → getD x p 0 ≡ b → Words x t i p e b n
 words-of w l h q = record { room = w .room; start = w .start; end = w .end; next = w .next; some = l; inside = h; byte = q }

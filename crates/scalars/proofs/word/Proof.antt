@@ -1,10 +1,10 @@
--- `json::word` meets its contract.
+-- `scalars::word` meets its contract.
 use Prim.Native.Nat.{_≤_, _-_}
 use lib.ListN.{length}
 use Rattle.json.proofs.Parts.{Spells}
-use Rattle.json.proofs.Rules.{lexes}
-use Rattle.json.proofs.word.Statement.{statement}
-use Rattle.json.proofs.word.Tie as tie
+use Rattle.scalars.proofs.Rules.{lexes}
+use Rattle.scalars.proofs.word.Statement.{statement}
+use Rattle.scalars.proofs.word.Tie as tie
 
 abbrev Inv-loop : tie.InvT-loop
 Inv-loop text at word i₀ k₀ i k = (k ≤ length word) × Spells text word at k i

@@ -1,7 +1,7 @@
--- `json::scalar` meets its contract.
-use Rattle.json.proofs.Rules.{scalars}
-use Rattle.json.proofs.scalar.Statement.{statement}
-use Rattle.json.proofs.scalar.Tie as tie
+-- `scalars::scalar` meets its contract.
+use Rattle.scalars.proofs.Rules.{scalars}
+use Rattle.scalars.proofs.scalar.Statement.{statement}
+use Rattle.scalars.proofs.scalar.Tie as tie
 
 pub scalar-spec : {M : Type 1} → statement M
 scalar-spec =
