@@ -27,7 +27,8 @@ use Rattle.fields.specs.Fields.{textIn, typeText}
 use Rattle.fields.specs.Laws.{at-node, of-none, of-some}
 use Rattle.shapes.specs.Checks.{Check, unless, all, on, forEach, stringKind, arrayKind, needs, text, isEmpty}
 use Rattle.shapes.specs.Shapes.{shaped, ranged, matches, isIntegerValue}
-use Rattle.shapes.specs.Says.{GivesTwo, Needs}
+use Rattle.shapes.specs.Says.{Needs}
+use Rattle.boundaries.specs.Says.{GivesTwo}
 use Rattle.rules.specs.Schema.{isGeometryType, isSurfaceType, geometryType, boundary, boundaries, overBoundary, needsLod}
 use Rattle.geometry.specs.Says.{Checked, CheckedOver, MemberFound, CodeAt, SoundAt, Outlined, Overlaid}
 use Rattle.geometry.proofs.Lines.{lines}

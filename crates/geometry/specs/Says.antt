@@ -17,7 +17,7 @@ use Rattle.nodes.specs.declared.Found.the-variants.{At}
 use Rattle.fields.specs.Fields.{textIn}
 use Rattle.shapes.specs.Checks.{Check, unless, on, isSome}
 use Rattle.shapes.specs.Shapes.{shaped}
-use Rattle.shapes.specs.Says.{Nodes}
+use Rattle.boundaries.specs.Says.{Nodes}
 use Rattle.rules.specs.Schema.{semantics}
 
 -- r is the least of best and the faults that the check finds in the value that stands at the node i

@@ -11,7 +11,7 @@ ghost use Rattle.nodes.specs.Says.{Node, Sought, Gives, GivesFound};
 ghost use Rattle.fields.specs.Says.{StringNode};
 ghost use Rattle.shapes.specs.Checks.{all, on, objectKind, isEmpty};
 ghost use Rattle.shapes.specs.Shapes.{shaped};
-ghost use Rattle.shapes.specs.Says.{GivesTwo};
+ghost use Rattle.boundaries.specs.Says.{GivesTwo};
 ghost use Rattle.rules.specs.Schema.{geometryType, surfaceType, isSurfaceType, boundaries, overBoundary, needsLod};
 ghost use Rattle.rules.specs.Schema as schema;
 ghost use Rattle.geometry.specs.Says as says;
@@ -181,7 +181,7 @@ fn is_shaped(text: &[u8], table: &[u32], i: usize, code: usize, sound: bool) -> 
     if sound {
         return true;
     }
-    shapes::shaped(text, table, i, types::depth_of(code), NO_FAULT) == NO_FAULT
+    boundaries::shaped(text, table, i, types::depth_of(code), NO_FAULT) == NO_FAULT
 }
 
 // Rule 12 of the values at `v` over the boundary at `b`, which is judged only if the boundary is well shaped, and rule 13 of their integers.
@@ -199,11 +199,11 @@ fn over_boundary(
     ensures { λ r. ⌜ GivesTwo (λ w u. least best (overBoundary surfaces code (some w) u)) (now (text .entry)) (now (table .entry)) b v r ⌝ }
 {
     let depth = types::values_depth_of(code);
-    let range = shapes::ranged(text, table, v, depth, surfaces, best);
+    let range = boundaries::ranged(text, table, v, depth, surfaces, best);
     if !is_shaped(text, table, b, code, sound) {
         return range;
     }
-    shapes::matches(text, table, b, v, depth, range)
+    boundaries::matches(text, table, b, v, depth, range)
 }
 
 // The same over the boundary that was found, if it has a code.
@@ -317,7 +317,7 @@ fn boundary_at(text: &[u8], table: &[u32], k: usize, code: usize, vertices: usiz
     if code == 0 {
         return kind;
     }
-    shapes::boundary(text, table, k, types::depth_of(code), vertices, kind)
+    boundaries::boundary(text, table, k, types::depth_of(code), vertices, kind)
 }
 
 // The boundary that was found.

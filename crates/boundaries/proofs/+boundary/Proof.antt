@@ -1,23 +1,23 @@
--- `shapes::boundary` meets its contract. The measure is the depth.
+-- `boundaries::boundary` meets its contract. The measure is the depth.
 use Prim.Native.Nat.{ℕ, _-_, _<_}
 use native.Mathlib.Omega.{arith}
 use mathlib.Core.List.{_++_}
 use mathlib.Core.Logic.{⊎-elim}
 use borrow.Fn.Kinds.{In}
 use borrow.Fn.PlainCycle.{Measures, is, falls, and}
 use Rattle.shapes.specs.Shapes as shape
 use Rattle.shapes.specs.Laws.{Pass, pass-turn, pass-done}
-use Rattle.shapes.proofs.Outline.{boundary-leaf, boundary-no, boundary-yes}
-use Rattle.shapes.proofs.Rules.{shapes}
-use Rattle.shapes.proofs.boundary.Reads as boundary
-use Rattle.shapes.proofs.boundary.Kinds as kinds
-use Rattle.shapes.proofs.+boundary.Lts-boundary as lts
-use Rattle.shapes.proofs.leaf.Reads as leaf-reads
+use Rattle.boundaries.proofs.Outline.{boundary-leaf, boundary-no, boundary-yes}
+use Rattle.boundaries.proofs.Rules.{nested}
+use Rattle.boundaries.proofs.boundary.Reads as boundary
+use Rattle.boundaries.proofs.boundary.Kinds as kinds
+use Rattle.boundaries.proofs.+boundary.Lts-boundary as lts
+use Rattle.boundaries.proofs.leaf.Reads as leaf-reads
 use Rattle.shapes.proofs.unless.Reads as unless-reads
 use Rattle.nodes.proofs.is_array.Reads as is-array-reads
 use Rattle.nodes.proofs.next.Reads as next-reads
-use Rattle.shapes.proofs.+boundary.{statement}
-use Rattle.shapes.proofs.+boundary.Tie.{close}
+use Rattle.boundaries.proofs.+boundary.{statement}
+use Rattle.boundaries.proofs.+boundary.Tie.{close}
 
 abbrev μ : Measures 2 kinds.ps ℕ
 μ κs a = a .1 .1 .1 .0
@@ -61,6 +61,6 @@ pub +boundary-spec : {M : Type 1} → statement M
 +boundary-spec =
     close μ
     λ t.
-    lts.spec (calls t) (now-at t) boundary.Post Inv μ-loop (λ c κs. search shapes) (returns t) (λ c κs. search shapes) (λ c κs. search shapes) (returns-2 t)
-    (λ c κs. search shapes) (λ c. search shapes) (λ c. search shapes) (λ c κs. search shapes) (λ c. search shapes) (λ c κs. search shapes)
-    (λ c κs. search shapes) (λ c. search shapes) (loop-again t) (returns-3 t)
+    lts.spec (calls t) (now-at t) boundary.Post Inv μ-loop (λ c κs. search nested) (returns t) (λ c κs. search nested) (λ c κs. search nested) (returns-2 t)
+    (λ c κs. search nested) (λ c. search nested) (λ c. search nested) (λ c κs. search nested) (λ c. search nested) (λ c κs. search nested)
+    (λ c κs. search nested) (λ c. search nested) (loop-again t) (returns-3 t)

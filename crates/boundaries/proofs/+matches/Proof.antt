@@ -1,19 +1,19 @@
--- `shapes::matches` meets its contract. The measure is the depth.
+-- `boundaries::matches` meets its contract. The measure is the depth.
 use Prim.Native.Nat.{ℕ, _-_, _<_}
 use borrow.Fn.Kinds.{In}
 use borrow.Fn.PlainCycle.{Measures, is, falls, and}
 use Rattle.shapes.specs.Shapes as shape
-use Rattle.shapes.proofs.Both.{Both, both-begin, both-first, both-second, both-less, both-turn, matches-leaf, matches-unlike, matches-each}
-use Rattle.shapes.proofs.Rules.{shapes}
-use Rattle.shapes.proofs.matches.Reads as matches
-use Rattle.shapes.proofs.matches.Kinds as kinds
-use Rattle.shapes.proofs.+matches.Lts-matches as lts
-use Rattle.shapes.proofs.is_value.Reads as is-value-reads
+use Rattle.boundaries.proofs.Both.{Both, both-begin, both-first, both-second, both-less, both-turn, matches-leaf, matches-unlike, matches-each}
+use Rattle.boundaries.proofs.Rules.{nested}
+use Rattle.boundaries.proofs.matches.Reads as matches
+use Rattle.boundaries.proofs.matches.Kinds as kinds
+use Rattle.boundaries.proofs.+matches.Lts-matches as lts
+use Rattle.boundaries.proofs.is_value.Reads as is-value-reads
 use Rattle.shapes.proofs.unless.Reads as unless-reads
-use Rattle.shapes.proofs.agree.Reads as agree-reads
+use Rattle.boundaries.proofs.agree.Reads as agree-reads
 use Rattle.nodes.proofs.next.Reads as next-reads
-use Rattle.shapes.proofs.+matches.{statement}
-use Rattle.shapes.proofs.+matches.Tie.{close}
+use Rattle.boundaries.proofs.+matches.{statement}
+use Rattle.boundaries.proofs.+matches.Tie.{close}
 
 abbrev μ : Measures 2 kinds.ps ℕ
 μ κs a = a .1 .1 .1 .1 .0
@@ -72,18 +72,18 @@ pub +matches-spec : {M : Type 1} → statement M
     matches.Post
     Inv
     μ-loop
-    (λ c κs. search shapes)
-    (λ c κs. search shapes)
+    (λ c κs. search nested)
+    (λ c κs. search nested)
     (returns t)
-    (λ c κs. search shapes)
-    (λ c κs. search shapes)
+    (λ c κs. search nested)
+    (λ c κs. search nested)
     (returns-2 t)
-    (λ c κs. search shapes)
-    (λ c. search shapes)
-    (λ c. search shapes)
+    (λ c κs. search nested)
+    (λ c. search nested)
+    (λ c. search nested)
     (loop-holds t)
-    (λ c. search shapes)
-    (λ c κs. search shapes)
+    (λ c. search nested)
+    (λ c κs. search nested)
     (next-requires-2 t)
     (next-requires-3 t)
     (loop-less t)

@@ -1,20 +1,20 @@
--- `shapes::shaped` meets its contract. The measure is the depth.
+-- `boundaries::shaped` meets its contract. The measure is the depth.
 use Prim.Native.Nat.{ℕ, _-_, _<_}
 use borrow.Fn.Kinds.{In}
 use borrow.Fn.PlainCycle.{Measures, is, falls, and}
 use Rattle.shapes.specs.Shapes as shape
 use Rattle.shapes.specs.Laws.{Pass, pass-done}
-use Rattle.shapes.proofs.Parts.{shaped-leaf, shaped-no, shaped-yes}
-use Rattle.shapes.proofs.Rules.{shapes}
-use Rattle.shapes.proofs.shaped.Reads as shaped
-use Rattle.shapes.proofs.shaped.Kinds as kinds
-use Rattle.shapes.proofs.+shaped.Lts-shaped as lts
+use Rattle.boundaries.proofs.Depths.{shaped-leaf, shaped-no, shaped-yes}
+use Rattle.boundaries.proofs.Rules.{nested}
+use Rattle.boundaries.proofs.shaped.Reads as shaped
+use Rattle.boundaries.proofs.shaped.Kinds as kinds
+use Rattle.boundaries.proofs.+shaped.Lts-shaped as lts
 use Rattle.shapes.proofs.is_integer.Reads as is-integer-reads
 use Rattle.shapes.proofs.unless.Reads as unless-reads
 use Rattle.nodes.proofs.is_array.Reads as is-array-reads
 use Rattle.nodes.proofs.next.Reads as next-reads
-use Rattle.shapes.proofs.+shaped.{statement}
-use Rattle.shapes.proofs.+shaped.Tie.{close}
+use Rattle.boundaries.proofs.+shaped.{statement}
+use Rattle.boundaries.proofs.+shaped.Tie.{close}
 
 abbrev μ : Measures 2 kinds.ps ℕ
 μ κs a = a .1 .1 .1 .0
@@ -60,6 +60,6 @@ pub +shaped-spec : {M : Type 1} → statement M
 +shaped-spec =
     close μ
     λ t.
-    lts.spec (calls t) (now-at t) shaped.Post Inv μ-loop (λ c κs. search shapes) (λ c κs. search shapes) (returns t) (λ c κs. search shapes)
-    (λ c κs. search shapes) (returns-2 t) (λ c κs. search shapes) (λ c. search shapes) (λ c. search shapes) (λ c. search shapes) (λ c κs. search shapes)
-    (λ c κs. search shapes) (λ c. search shapes) (λ c. search shapes) (returns-3 t)
+    lts.spec (calls t) (now-at t) shaped.Post Inv μ-loop (λ c κs. search nested) (λ c κs. search nested) (returns t) (λ c κs. search nested)
+    (λ c κs. search nested) (returns-2 t) (λ c κs. search nested) (λ c. search nested) (λ c. search nested) (λ c. search nested) (λ c κs. search nested)
+    (λ c κs. search nested) (λ c. search nested) (λ c. search nested) (returns-3 t)

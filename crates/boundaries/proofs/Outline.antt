@@ -11,7 +11,6 @@ use lib.IntN.{pos}
 use mir.Syntax.{w64}
 use mir.Val.{Fits}
 use borrow.Author.Tests.{not-true, not-false, ltb-true}
-use Rattle.utf8.specs.Laws.{never}
 use Rattle.numerals.specs.Numerals.{isInteger, integer, isBelow}
 use Rattle.numerals.specs.Reading.{Quick}
 use Rattle.json.specs.Tree.{Json}
@@ -20,11 +19,12 @@ use Rattle.nodes.specs.Access.{isNumberValue, isArrayValue, numeralOf}
 use Rattle.nodes.specs.Faults.{fault, least}
 use Rattle.nodes.specs.Says.{Gives}
 use Rattle.nodes.specs.Laws.{numeral-at}
-use Rattle.shapes.specs.Checks.{Check, unless, eachElement, numeral}
+use Rattle.shapes.specs.Checks.{unless, eachElement, numeral}
 use Rattle.shapes.specs.Shapes.{isIntegerValue, shaped, ranged}
 use Rattle.shapes.specs.Says.{Clears}
-use Rattle.shapes.specs.Laws.{least-none, gives-then, each-both, pass-none, kind-yes}
-use Rattle.shapes.proofs.Parts.{shaped-suc, ranged-suc, shaped-no, ranged-deep}
+use Rattle.shapes.specs.Laws.{gives-then, each-both, pass-none, kind-yes}
+use Rattle.shapes.proofs.Parts.{integer-of}
+use Rattle.boundaries.proofs.Depths.{shaped-suc, ranged-suc, shaped-no, ranged-deep}
 
 -- the two rules at the last level
 shaped-last : (v : Json) → shaped 0 v ≡ unless (isIntegerValue v) 12 v
@@ -34,10 +34,6 @@ shaped-last v = refl
 ranged-last : (count : ℕ) (v : Json) → ranged count 0 v ≡ unless (not (isNumberValue v) || isBelow count (integer (numeralOf v))) 13 v
 unfolding ranged numeral
 ranged-last count v = refl
-
-pub integer-of : (v : Json) → isNumberValue v ≡ true → isInteger (numeralOf v) ≡ true → isIntegerValue v ≡ true
-unfolding isIntegerValue
-integer-of v n w = rw n w
 
 -- an integer below the count breaks neither
 sound : (count : ℕ) (v : Json) → isIntegerValue v ≡ true → not (isNumberValue v) || isBelow count (integer (numeralOf v)) ≡ true → shaped 0 v ++ ranged count 0 v ≡ []
@@ -57,13 +53,6 @@ unfolding isBelow
 below-at count n e = e
 
 module _ {x t : List ℕ} {i : ℕ} where
-  -- a test that told nothing, and one that told that the check finds no fault
-  pub clears-none : (c : Check) → Clears c x t i false
-  clears-none c = record { none = λ e. absurd (never e refl) }
-
-  pub clears-best : (best : ℕ) (c : Check) {r : Bool} → Clears c x t i r → r ≡ true → Gives (λ v. least best (c v)) x t i best
-  clears-best best c k e = record { is = λ v s. least-none (k .none e v s) }
-
   -- a number below the count
   pub clears-ranged : (count : ℕ) {b : Bool} {p e q : ℕ} → Gives isNumberValue x t i b → not b ≡ false → p ≡ getD t i 0 → e ≡ getD t (i + 1) 0
       → Quick (slice p e x) q → Fits w64 count → Clears (λ v. shaped 0 v ++ ranged count 0 v) x t i (ltb q count)

@@ -16,9 +16,9 @@ use Rattle.nodes.specs.Access.{isNullValue, isArrayValue, listed, elements}
 use Rattle.nodes.specs.Faults.{least}
 use Rattle.nodes.specs.Says.{Gives}
 use Rattle.nodes.specs.Laws.{elements-begin, least-++}
 use Rattle.shapes.specs.Checks.{Check, unless}
 use Rattle.shapes.specs.Shapes.{isIntegerValue, forBoth, matches}
-use Rattle.shapes.specs.Says.{Nodes, GivesTwo, agree}
+use Rattle.boundaries.specs.Says.{Nodes, GivesTwo, agree}
 
 -- the words from j on are those of some elements, of which P holds
 pub record Rest (x t : List ℕ) (j : ℕ) (P : Items → Type 0) : Type 0 where

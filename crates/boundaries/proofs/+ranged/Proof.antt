@@ -1,19 +1,19 @@
--- `shapes::ranged` meets its contract. The measure is the depth.
+-- `boundaries::ranged` meets its contract. The measure is the depth.
 use Prim.Native.Nat.{ℕ, _-_, _<_}
 use borrow.Fn.Kinds.{In}
 use borrow.Fn.PlainCycle.{Measures, is, falls, and}
 use Rattle.shapes.specs.Shapes as shape
 use Rattle.shapes.specs.Laws.{Pass, pass-none, pass-done}
-use Rattle.shapes.proofs.Parts.{ranged-leaf, ranged-deep}
-use Rattle.shapes.proofs.Rules.{shapes}
-use Rattle.shapes.proofs.ranged.Reads as ranged
-use Rattle.shapes.proofs.ranged.Kinds as kinds
-use Rattle.shapes.proofs.+ranged.Lts-ranged as lts
-use Rattle.shapes.proofs.below.Reads as below-reads
+use Rattle.boundaries.proofs.Depths.{ranged-leaf, ranged-deep}
+use Rattle.boundaries.proofs.Rules.{nested}
+use Rattle.boundaries.proofs.ranged.Reads as ranged
+use Rattle.boundaries.proofs.ranged.Kinds as kinds
+use Rattle.boundaries.proofs.+ranged.Lts-ranged as lts
+use Rattle.boundaries.proofs.below.Reads as below-reads
 use Rattle.nodes.proofs.is_array.Reads as is-array-reads
 use Rattle.nodes.proofs.next.Reads as next-reads
-use Rattle.shapes.proofs.+ranged.{statement}
-use Rattle.shapes.proofs.+ranged.Tie.{close}
+use Rattle.boundaries.proofs.+ranged.{statement}
+use Rattle.boundaries.proofs.+ranged.Tie.{close}
 
 abbrev μ : Measures 2 kinds.ps ℕ
 μ κs a = a .1 .1 .1 .0
@@ -48,6 +48,6 @@ pub +ranged-spec : {M : Type 1} → statement M
 +ranged-spec =
     close μ
     λ t.
-    lts.spec (calls t) (now-at t) ranged.Post Inv μ-loop (λ c κs. search shapes) (returns t) (λ c κs. search shapes) (returns-2 t) (λ c κs. search shapes)
-    (λ c. search shapes) (λ c. search shapes) (λ c. search shapes) (λ c κs. search shapes) (λ c κs. search shapes) (λ c. search shapes) (λ c. search shapes)
+    lts.spec (calls t) (now-at t) ranged.Post Inv μ-loop (λ c κs. search nested) (returns t) (λ c κs. search nested) (returns-2 t) (λ c κs. search nested)
+    (λ c. search nested) (λ c. search nested) (λ c. search nested) (λ c κs. search nested) (λ c κs. search nested) (λ c. search nested) (λ c. search nested)
     (returns-3 t)
