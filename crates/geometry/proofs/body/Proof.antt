@@ -6,7 +6,7 @@ use Rattle.geometry.proofs.body.Statement.{statement}
 use Rattle.geometry.proofs.body.Tie as tie
 
 semantics-requires : tie.Need-semantics-requires
-semantics-requires c κs = (search outlines, own-sound _ (search outlines) (c .before .boundary .ensures))
+semantics-requires c κs = (search outlines, search (outlines, own-sound _ (search outlines) (c .before .boundary .ensures)))
 
 returns : tie.Need-returns
 unfolding ascii
