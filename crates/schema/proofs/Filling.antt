@@ -27,8 +27,9 @@ use Rattle.fields.specs.Fields.{membersIn, objectsOf}
 use Rattle.fields.specs.Laws.{at-room, at-onward}
 use Rattle.fields.specs.declared.Index.{Index}
 use Rattle.rules.specs.Schema.{nameFault, objectLimit, cityObject, cityObjects}
-use Rattle.schema.proofs.Lines.{lines, checked}
-use Rattle.schema.specs.Says.{Checked, ObjectNode, Extra, Named, Limited, ExtraAt, ExtraFound, FillsAt, Fills, IndexedAt}
+use Rattle.geometry.specs.Says.{Checked}
+use Rattle.geometry.proofs.Lines.{lines, checked}
+use Rattle.schema.specs.Says.{ObjectNode, Extra, Named, Limited, ExtraAt, ExtraFound, FillsAt, Fills, IndexedAt}
 
 -- the members before the node k, which the first words of the index name
 pub record Done (x t offsets : List ℕ) (n k count : ℕ) (v : Json) : Type 0 where

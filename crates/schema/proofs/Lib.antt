@@ -1,6 +1,4 @@
 -- What the proofs of several functions use.
-mod Lines
-mod Strings
+mod Types
 mod Filling
-mod GeometryLaws
 mod Orders

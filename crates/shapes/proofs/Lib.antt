@@ -1,6 +1,4 @@
--- What the proofs of several functions use.
+-- What the proofs of several functions use, and those of `boundaries`.
 mod Rules
-mod Parts
-mod Outline
+pub mod Parts
 mod Triples
-mod Both

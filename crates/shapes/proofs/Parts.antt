@@ -1,5 +1,5 @@
--- Integers, pairs and shapes at a node, from what the code's tests say.
-use Prim.Native.Nat.{ℕ, suc, zero, _+_, _-_, _<_, _≤_, min}
+-- Integers, pairs and vertices at a node, from what the code's tests say.
+use Prim.Native.Nat.{ℕ, _+_, _-_, _<_, _≤_, min}
 use mathlib.Core.Path.{_≡_, refl, sym, ap, _∙_}
 use mathlib.Core.Bool.{Bool, true, false, not, _&&_, _||_}
 use mathlib.Core.List.{List, _++_}
@@ -12,24 +12,25 @@ use lib.ListN.{length, getD}
 use lib.Seq.{slice}
 use lib.Dec.{eqb}
 use borrow.Author.Tests.{not-true, not-false, ne-eqb, eq-eqb}
-use Rattle.numerals.specs.Numerals.{Decimal, isInteger, integer, pairOf, fits32, isBelow}
+use Rattle.utf8.specs.Laws.{never}
+use Rattle.numerals.specs.Numerals.{Decimal, isInteger, integer, pairOf, fits32}
 use Rattle.numerals.specs.Reading.{pairIn}
 use Rattle.numerals.specs.declared.Numeral.{Numeral}
 use Rattle.numerals.specs.declared.Numeral.the-variants.{Pair, Out}
 use Rattle.json.specs.Tree.{Json}
 use Rattle.json.specs.Table.{Sub}
 use Rattle.json.specs.Laws.{Left, Past, past, over, ended}
-use Rattle.nodes.specs.Access.{isNullValue, isNumberValue, isArrayValue, listed, elements, numeralOf}
+use Rattle.nodes.specs.Access.{isNumberValue, isArrayValue, listed, elements, numeralOf}
 use Rattle.nodes.specs.Faults.{fault, least}
 use Rattle.nodes.specs.Says.{Node, Gives}
 use Rattle.nodes.specs.Laws.{place-at, numeral-at, elements-begin, least-++}
-use Rattle.shapes.specs.Checks.{unless, eachElement, arrayKind, numberKind, numeral, isSome}
-use Rattle.shapes.specs.Shapes.{isIntegerValue, allIntegers, threeEntries, pairRange, orFault, pairOrFault, isTriple, coordinate, vertex, shaped, ranged}
-use Rattle.shapes.specs.Says.{pairedAs, GivesPair}
+use Rattle.shapes.specs.Checks.{Check, unless, eachElement, arrayKind, numberKind, numeral, isSome}
+use Rattle.shapes.specs.Shapes.{isIntegerValue, allIntegers, threeEntries, pairRange, orFault, pairOrFault, isTriple, coordinate, vertex}
+use Rattle.shapes.specs.Says.{Clears, pairedAs, GivesPair}
 use Rattle.shapes.specs.declared.Paired.{Paired}
 use Rattle.shapes.specs.declared.Paired.the-variants.{Fault}
 use Rattle.shapes.specs.declared.Paired.the-variants as paired
-use Rattle.shapes.specs.Laws.{least-turn, unless-true, unless-told, each-none, numeral-none, numeral-is, kind-no, kind-yes}
+use Rattle.shapes.specs.Laws.{least-turn, least-none, unless-true, numeral-none, numeral-is}
 
 -- a test or another that is known
 pub or-true : (b : Bool) → b || true ≡ true
@@ -50,16 +51,10 @@ triple-of v e = go (isArrayValue v) (eqb (length (elements v)) 3) (allIntegers (
     go false true c e = e
     go false false c e = e
 
--- the checks of a depth above 0, by those of one less
-pub shaped-suc : (d : ℕ) → (d ≡ 0 → ⊥) → (v : Json) → shaped d v ≡ unless (isArrayValue v) 12 v ++ eachElement (shaped (d - 1)) v
-unfolding shaped eachElement
-shaped-suc zero h v = absurd (h refl)
-shaped-suc (suc d) h v = let e : d ≡ suc d - 1 = omega arith in ap (λ (k : ℕ). unless (isArrayValue v) 12 v ++ eachElement (shaped k) v) e
-
-pub ranged-suc : (count d : ℕ) → (d ≡ 0 → ⊥) → (v : Json) → ranged count d v ≡ eachElement (ranged count (d - 1)) v
-unfolding ranged eachElement
-ranged-suc count zero h v = absurd (h refl)
-ranged-suc count (suc d) h v = let e : d ≡ suc d - 1 = omega arith in ap (λ (k : ℕ). eachElement (ranged count k) v) e
+-- a number with neither fraction nor exponent is an integer
+pub integer-of : (v : Json) → isNumberValue v ≡ true → isInteger (numeralOf v) ≡ true → isIntegerValue v ≡ true
+unfolding isIntegerValue
+integer-of v n w = rw n w
 
 -- the fault where there is one, if it is less than best
 abbrev orBest : ℕ → Decimal ⊎ ℕ → ℕ
@@ -76,12 +71,12 @@ module _ {x t : List ℕ} {i : ℕ} where
   unfolding isIntegerValue
   integer-is {b} {p} {e} {r} g h q o m = record { is = λ v s. let z : isNumberValue v ≡ true = sym (g .is v s) ∙ not-false b h in rw (z, numeral-at s z .bytes, ← q, ← o) m }
 
-  -- an integer or null
-  pub value-null : {b : Bool} → Gives isNullValue x t i b → b ≡ true → Gives (λ v. isIntegerValue v || isNullValue v) x t i true
-  value-null {b} g e = record { is = λ v s. let z : isNullValue v ≡ true = sym (g .is v s) ∙ e in rw z (sym (or-true (isIntegerValue v))) }
+  -- a test that told nothing, and one that told that the check finds no fault
+  pub clears-none : (c : Check) → Clears c x t i false
+  clears-none c = record { none = λ e. absurd (never e refl) }
 
-  pub value-integer : {b r : Bool} → Gives isNullValue x t i b → b ≡ false → Gives isIntegerValue x t i r → Gives (λ v. isIntegerValue v || isNullValue v) x t i r
-  value-integer {b} {r} g e h = record { is = λ v s. let z : isNullValue v ≡ false = sym (g .is v s) ∙ e in rw z (h .is v s ∙ sym (or-false (isIntegerValue v))) }
+  pub clears-best : (best : ℕ) (c : Check) {r : Bool} → Clears c x t i r → r ≡ true → Gives (λ v. least best (c v)) x t i best
+  clears-best best c k e = record { is = λ v s. least-none (k .none e v s) }
 
   -- three numbers
   pub three-none : (best : ℕ) {b : Bool} → Gives isArrayValue x t i b → not b ≡ true → Gives (λ v. least best (threeEntries v)) x t i best
@@ -152,17 +147,6 @@ module _ {x t : List ℕ} {i : ℕ} where
   unfolding coordinate
   coordinate-is best g q o m u = numeral-is best 13 (λ raw. fits32 (integer raw)) g refl q o m u
 
-  -- an integer below the count
-  pub below-none : (best count : ℕ) {b : Bool} → Gives isNumberValue x t i b → not b ≡ true → Gives (λ v. least best (ranged count 0 v)) x t i best
-  unfolding ranged
-  below-none best count g e = numeral-none best 13 (λ raw. isBelow count (integer raw)) g e
-
-  pub below-is : (best count : ℕ) {p e r : ℕ} {k : Bool}
-      → Gives isNumberValue x t i true → p ≡ getD t i 0 → e ≡ getD t (i + 1) 0 → k ≡ isBelow count (integer (slice p e x))
-      → Gives (λ v. least best (unless k 13 v)) x t i r → Gives (λ v. least best (ranged count 0 v)) x t i r
-  unfolding ranged
-  below-is best count g q o m u = numeral-is best 13 (λ raw. isBelow count (integer raw)) g refl q o m u
-
   -- three pairs
   pub three-pairs-is : (best k s : ℕ) {r : ℕ} → Gives (λ v. least best (arrayKind v)) x t i k → Gives (λ v. least k (threeEntries v)) x t i s
       → Gives (λ v. least s (eachElement numberKind v ++ eachElement pairRange v)) x t i r
@@ -201,31 +185,6 @@ module _ {x t : List ℕ} {i : ℕ} where
   pub vertex-is : (best : ℕ) {b : Bool} {r : ℕ} → Gives isTriple x t i b → not b ≡ false → Gives (λ v. least best (eachElement coordinate v)) x t i r → Gives (λ v. least best (vertex v)) x t i r
   unfolding vertex
   vertex-is best {b} g e u = record { is = λ v s. let z : isTriple v ≡ true = sym (g .is v s) ∙ not-false b e in rw z (u .is v s) }
-
-  -- a shape of that depth
-  module _ (best depth : ℕ) where
-    pub shaped-leaf : {b : Bool} {r : ℕ} → depth ≡ 0 → Gives isIntegerValue x t i b → Gives (λ v. least best (unless b 12 v)) x t i r → Gives (λ v. least best (shaped depth v)) x t i r
-    unfolding shaped
-    shaped-leaf e g u = rw e (unless-told best 12 g u)
-
-    shaped-deep : {r : ℕ} → (depth ≡ 0 → ⊥) → Gives (λ v. least best (unless (isArrayValue v) 12 v ++ eachElement (shaped (depth - 1)) v)) x t i r → Gives (λ v. least best (shaped depth v)) x t i r
-    shaped-deep h g = record { is = λ v s. g .is v s ∙ ap (least best) (sym (shaped-suc depth h v)) }
-
-    pub shaped-no : {b : Bool} {r : ℕ} → (depth ≡ 0 → ⊥) → Gives isArrayValue x t i b → not b ≡ true → Gives (λ v. least best (unless false 12 v)) x t i r
-        → Gives (λ v. least best (shaped depth v)) x t i r
-    shaped-no {b} h g e u = shaped-deep h (kind-no best 12 (eachElement (shaped (depth - 1))) g (each-none (shaped (depth - 1))) e (rw (not-true b e) u))
-
-    pub shaped-yes : {b : Bool} {r : ℕ} → (depth ≡ 0 → ⊥) → Gives isArrayValue x t i b → not b ≡ false
-        → Gives (λ v. least best (eachElement (shaped (depth - 1)) v)) x t i r → Gives (λ v. least best (shaped depth v)) x t i r
-    shaped-yes h g e p = shaped-deep h (kind-yes best 12 (eachElement (shaped (depth - 1))) g e p)
-
-  -- integers in range at that depth
-  module _ (best count depth : ℕ) where
-    pub ranged-leaf : {r : ℕ} → depth ≡ 0 → Gives (λ v. least best (ranged count 0 v)) x t i r → Gives (λ v. least best (ranged count depth v)) x t i r
-    ranged-leaf e g = rw e g
-
-    pub ranged-deep : {r : ℕ} → (depth ≡ 0 → ⊥) → Gives (λ v. least best (eachElement (ranged count (depth - 1)) v)) x t i r → Gives (λ v. least best (ranged count depth v)) x t i r
-    ranged-deep h g = record { is = λ v s. g .is v s ∙ ap (least best) (sym (ranged-suc count depth h v)) }
 
 -- A loop over the elements of the array at i, all of which were integers up to the node k
 pub record Integers (x t : List ℕ) (i n k : ℕ) : Type 0 where

@@ -14,10 +14,8 @@ use Rattle.nodes.specs.declared.Found.the-variants.{At, Nothing}
 use Rattle.shapes.specs.Checks.{unless, isSome}
 use Rattle.shapes.specs.Says.{Needs}
 use Rattle.shapes.specs.Laws.{checking, unless-true}
-use Rattle.shapes.proofs.Parts.{or-true, or-false, number-node, integer-no, integer-is, value-null, value-integer, triple-kind, triple-array, triple-count, triple-is, vertex-array, integers-start, integers-node, integers-room, integers-less, integers-wrong, integers-turn, integers-done}
-use Rattle.shapes.proofs.Outline.{clears-none}
+use Rattle.shapes.proofs.Parts.{or-true, or-false, clears-none, number-node, integer-no, integer-is, triple-kind, triple-array, triple-count, triple-is, vertex-array, integers-start, integers-node, integers-room, integers-less, integers-wrong, integers-turn, integers-done}
 use Rattle.shapes.proofs.Triples.{small-none, small-is, plain-onward, plain-begin, plain-first}
-use Rattle.shapes.proofs.Both.{agree-kind, agree-is, both-nodes}
 
 -- rule 8
 module _ {x t : List ℕ} {i : ℕ} (best : ℕ) {found : Found} where
@@ -39,8 +37,6 @@ pub ruleset shapes = (
   need-found,
   integer-no,
   integer-is,
-  value-null,
-  value-integer,
   triple-kind,
   triple-array,
   triple-count,
@@ -60,7 +56,4 @@ pub ruleset shapes = (
   plain-begin,
   plain-first,
   number-node,
-  agree-kind,
-  agree-is,
-  both-nodes,
 )

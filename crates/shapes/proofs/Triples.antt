@@ -23,7 +23,7 @@ use Rattle.shapes.specs.Checks.{unless, forEach, eachElement, numeral}
 use Rattle.shapes.specs.Shapes.{isIntegerValue, allIntegers, isTriple, coordinate, vertex}
 use Rattle.shapes.specs.Says.{Clears, IsSmall}
 use Rattle.shapes.specs.Laws.{integer-number}
-use Rattle.shapes.proofs.Outline.{integer-of}
+use Rattle.shapes.proofs.Parts.{integer-of}
 
 coordinate-at : (v : Json) → coordinate v ≡ unless (not (isNumberValue v) || fits32 (integer (numeralOf v))) 13 v
 unfolding coordinate numeral

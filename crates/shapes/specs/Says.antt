@@ -1,17 +1,15 @@
 -- What the checks over a node table ask and tell.
 use mathlib.Core.Path.{_≡_}
-use mathlib.Core.Bool.{Bool, true, not, _&&_, _||_}
+use mathlib.Core.Bool.{Bool, true, not, _||_}
 use mathlib.Core.List.{List, []}
 use mathlib.Core.Option.{Option}
 use mathlib.Core.Logic.{_⊎_, inl, inr}
 use Prim.Native.Nat.{ℕ}
-use lib.ListN.{length}
-use lib.Dec.{eqb}
 use Rattle.json.specs.Tree.{Json}
 use Rattle.json.specs.Table.{Sub}
-use Rattle.nodes.specs.Access.{isObjectValue, isArrayValue, elements}
+use Rattle.nodes.specs.Access.{isObjectValue}
 use Rattle.nodes.specs.Faults.{least}
-use Rattle.nodes.specs.Says.{Node, Finds}
+use Rattle.nodes.specs.Says.{Finds}
 use Rattle.nodes.specs.declared.Found.{Found}
 use Rattle.shapes.specs.Checks.{Check, unless, isSome}
 use Rattle.numerals.specs.Numerals.{Decimal}
@@ -27,20 +25,6 @@ pub record Clears (c : Check) (x t : List ℕ) (i : ℕ) (r : Bool) : Type 0 whe
 pub record IsSmall (x t : List ℕ) (i : ℕ) (r : Bool) : Type 0 where
   pub whole : r ≡ true → (v : Json) → Sub x t i v → isIntegerValue v ≡ true
   pub fits : r ≡ true → (v : Json) → Sub x t i v → coordinate v ≡ []
-
--- values stand at two nodes
-pub record Nodes (x t : List ℕ) (i j : ℕ) : Type 0 where
-  pub one : Node x t i
-  pub two : Node x t j
-
--- r is what f gives for the values that stand at two nodes
-pub record GivesTwo {A : Type 0} (f : Json → Json → A) (x t : List ℕ) (i j : ℕ) (r : A) : Type 0 where
-  pub is : (v w : Json) → Sub x t i v → Sub x t j w → r ≡ f v w
-
--- the second is an array of as many elements as the first has
-unfoldable pub agree : Json → Json → Bool
-unfolding isArrayValue elements
-agree v w = isArrayValue w && eqb (length (elements v)) (length (elements w))
 
 -- r is the least of best and the fault of rule 8 at the value that stands at the node i, unless what was found is there
 pub record Needs (x t : List ℕ) (found : Found) (i best r : ℕ) : Type 0 where

@@ -1,6 +1,6 @@
 -- `schema::children` meets its contract.
 use Rattle.utf8.specs.Ascii.{ascii}
-use Rattle.schema.proofs.Lines.{lines}
+use Rattle.geometry.proofs.Lines.{lines}
 use Rattle.schema.proofs.children.Statement.{statement}
 use Rattle.schema.proofs.children.Tie as tie
 

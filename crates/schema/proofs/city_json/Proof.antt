@@ -2,7 +2,7 @@
 use Rattle.utf8.specs.Ascii.{ascii}
 use Rattle.rules.specs.Schema.{word}
 use Rattle.schema.proofs.Orders.{root-is, rootParts}
-use Rattle.schema.proofs.Lines.{lines, together}
+use Rattle.geometry.proofs.Lines.{lines, together}
 use Rattle.schema.proofs.city_json.Statement.{statement}
 use Rattle.schema.proofs.city_json.Tie as tie
 

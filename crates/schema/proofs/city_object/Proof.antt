@@ -1,7 +1,7 @@
 -- `schema::city_object` meets its contract.
 use Rattle.utf8.specs.Ascii.{ascii}
-use Rattle.schema.proofs.Lines.{gives}
-use Rattle.schema.proofs.Strings.{strings}
+use Rattle.geometry.proofs.Lines.{gives}
+use Rattle.geometry.proofs.Strings.{strings}
 use Rattle.schema.proofs.city_object.Statement.{statement}
 use Rattle.schema.proofs.city_object.Tie as tie
 

@@ -1,7 +1,7 @@
 -- `schema::city_object_of` meets its contract.
 use Rattle.utf8.specs.Ascii.{ascii}
 use Rattle.schema.proofs.Orders.{city-object-is, objectParts}
-use Rattle.schema.proofs.Lines.{lines, together}
+use Rattle.geometry.proofs.Lines.{lines, together}
 use Rattle.schema.proofs.city_object_of.Statement.{statement}
 use Rattle.schema.proofs.city_object_of.Tie as tie
 

@@ -2,7 +2,7 @@
 use Prim.Native.Nat.{_-_}
 use Rattle.shapes.specs.Laws.{MemberPass, members-done}
 use Rattle.rules.specs.Schema.{cityObject}
-use Rattle.schema.proofs.Lines.{lines}
+use Rattle.geometry.proofs.Lines.{lines}
 use Rattle.schema.proofs.each_object.Statement.{statement}
 use Rattle.schema.proofs.each_object.Tie as tie
 

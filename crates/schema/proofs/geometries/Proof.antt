@@ -1,6 +1,6 @@
 -- `schema::geometries` meets its contract.
 use Rattle.utf8.specs.Ascii.{ascii}
-use Rattle.schema.proofs.Lines.{lines}
+use Rattle.geometry.proofs.Lines.{lines}
 use Rattle.schema.proofs.geometries.Statement.{statement}
 use Rattle.schema.proofs.geometries.Tie as tie
 

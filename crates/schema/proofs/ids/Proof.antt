@@ -3,7 +3,7 @@ use Prim.Native.Nat.{_-_}
 use Rattle.shapes.specs.Laws.{Pass}
 use Rattle.shapes.specs.Checks.{stringKind}
 use Rattle.rules.specs.Schema.{links}
-use Rattle.schema.proofs.Strings.{arrayed}
+use Rattle.geometry.proofs.Strings.{arrayed}
 use Rattle.schema.proofs.ids.Statement.{statement}
 use Rattle.schema.proofs.ids.Tie as tie
 

@@ -1,7 +1,7 @@
 -- `schema::is_added` meets its contract.
 use Rattle.words.specs.Words.{isAdded}
 use Rattle.fields.specs.Laws.{string-text}
-use Rattle.schema.proofs.Strings.{strings}
+use Rattle.geometry.proofs.Strings.{strings}
 use Rattle.schema.proofs.is_added.Statement.{statement}
 use Rattle.schema.proofs.is_added.Tie as tie
 

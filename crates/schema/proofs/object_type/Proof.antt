@@ -1,5 +1,5 @@
 -- `schema::object_type` meets its contract.
-use Rattle.schema.proofs.Strings.{strings}
+use Rattle.geometry.proofs.Strings.{strings}
 use Rattle.schema.proofs.object_type.Statement.{statement}
 use Rattle.schema.proofs.object_type.Tie as tie
 

@@ -1,6 +1,6 @@
 -- `schema::one_word` meets its contract.
 use Rattle.rules.specs.Schema.{oneWord}
-use Rattle.schema.proofs.Strings.{strings}
+use Rattle.geometry.proofs.Strings.{strings}
 use Rattle.schema.proofs.one_word.Statement.{statement}
 use Rattle.schema.proofs.one_word.Tie as tie
 

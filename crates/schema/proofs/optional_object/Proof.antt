@@ -1,5 +1,5 @@
 -- `schema::optional_object` meets its contract.
-use Rattle.schema.proofs.Lines.{lines}
+use Rattle.geometry.proofs.Lines.{lines}
 use Rattle.schema.proofs.optional_object.Statement.{statement}
 use Rattle.schema.proofs.optional_object.Tie as tie
 

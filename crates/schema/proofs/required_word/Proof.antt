@@ -1,5 +1,5 @@
 -- `schema::required_word` meets its contract.
-use Rattle.schema.proofs.Lines.{lines}
+use Rattle.geometry.proofs.Lines.{lines}
 use Rattle.schema.proofs.required_word.Statement.{statement}
 use Rattle.schema.proofs.required_word.Tie as tie
 

@@ -1,6 +1,6 @@
 -- `schema::root` meets its contract.
 use Rattle.utf8.specs.Ascii.{ascii}
-use Rattle.schema.proofs.Lines.{gives}
+use Rattle.geometry.proofs.Lines.{gives}
 use Rattle.schema.proofs.Filling.{filling}
 use Rattle.schema.proofs.root.Statement.{statement}
 use Rattle.schema.proofs.root.Tie as tie

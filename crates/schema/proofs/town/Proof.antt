@@ -1,7 +1,7 @@
 -- `schema::town` meets its contract.
 use Rattle.utf8.specs.Ascii.{ascii}
 use Rattle.schema.proofs.Orders.{town-is}
-use Rattle.schema.proofs.Lines.{lines}
+use Rattle.geometry.proofs.Lines.{lines}
 use Rattle.schema.proofs.town.Statement.{statement}
 use Rattle.schema.proofs.town.Tie as tie
 

@@ -1,6 +1,6 @@
 -- `schema::transform` meets its contract.
 use Rattle.utf8.specs.Ascii.{ascii}
-use Rattle.schema.proofs.Lines.{lines}
+use Rattle.geometry.proofs.Lines.{lines}
 use Rattle.schema.proofs.transform.Statement.{statement}
 use Rattle.schema.proofs.transform.Tie as tie
 

@@ -1,7 +1,7 @@
 -- `schema::transform_at` meets its contract.
 use Rattle.utf8.specs.Ascii.{ascii}
 use Rattle.schema.proofs.Orders.{transform-is, transformParts}
-use Rattle.schema.proofs.Lines.{lines, together}
+use Rattle.geometry.proofs.Lines.{lines, together}
 use Rattle.schema.proofs.transform_at.Statement.{statement}
 use Rattle.schema.proofs.transform_at.Tie as tie
 

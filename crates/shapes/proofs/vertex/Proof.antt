@@ -1,6 +1,5 @@
 -- `shapes::vertex` meets its contract.
-use Rattle.shapes.proofs.Outline.{clears-best}
-use Rattle.shapes.proofs.Parts.{vertex-no, vertex-is}
+use Rattle.shapes.proofs.Parts.{clears-best, vertex-no, vertex-is}
 use Rattle.shapes.proofs.Rules.{shapes}
 use Rattle.shapes.proofs.vertex.Statement.{statement}
 use Rattle.shapes.proofs.vertex.Tie as tie

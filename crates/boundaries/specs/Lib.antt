@@ -1,0 +1,2 @@
+-- What the checks of boundaries and values ask and tell.
+pub mod Says

@@ -1,0 +1,2 @@
+-- What the checks of a geometry ask and tell.
+pub mod Says
