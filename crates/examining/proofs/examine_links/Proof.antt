@@ -1,7 +1,7 @@
--- `judging::examine_links` meets its contract.
-use Rattle.judging.proofs.Rules.{examines}
-use Rattle.judging.proofs.examine_links.Statement.{statement}
-use Rattle.judging.proofs.examine_links.Tie as tie
+-- `examining::examine_links` meets its contract.
+use Rattle.examining.proofs.Rules.{examines}
+use Rattle.examining.proofs.examine_links.Statement.{statement}
+use Rattle.examining.proofs.examine_links.Tie as tie
 
 pub examine-links-spec : {M : Type 1} → statement M
 examine-links-spec =

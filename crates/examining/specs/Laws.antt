@@ -1,4 +1,4 @@
--- What follows from what the parts of judge answered.
+-- What follows from what the parts of judge and lay answered.
 use Prim.Native.Nat.{ℕ, _-_, _*_, _≤_, _<_}
 use native.Mathlib.Omega.{arith}
 use mathlib.Core.Path.{_≡_, refl, sym, ap, _∙_, subst}
@@ -9,8 +9,8 @@ use mathlib.Core.Option.{Option, some}
 use mathlib.Core.Option as option
 use lib.ListN.{length, take, drop, replicate}
 use lib.Seq.{length-take-le, getD-take}
-use lib.Dec.{ltb, leb}
-use borrow.Author.Tests.{ltb-true, ltb-false, leb-true}
+use lib.Dec.{ltb}
+use borrow.Author.Tests.{ltb-true, ltb-false}
 use Rattle.utf8.specs.Utf8.{wholeLength}
 use Rattle.utf8.specs.Laws.{clash}
 use Rattle.json.specs.Machine.{Outcome, read, reads, bad, tooDeep}
@@ -29,14 +29,12 @@ use Rattle.verdict.specs.Verdict as judged
 use Rattle.verdict.specs.Exact.{verdict-long, verdict-odd, verdict-read, in-text}
 use Rattle.refusals.specs.Refusals.{refusal}
 use Rattle.refusals.specs.declared.Refusal.{Refusal}
-use Rattle.judging.specs.declared.Screened.{Screened}
-use Rattle.judging.specs.declared.Screened.the-variants as screened
-use Rattle.judging.specs.declared.Opened.{Opened}
-use Rattle.judging.specs.declared.Opened.the-variants as opened
-use Rattle.judging.specs.declared.Verdict.{Verdict}
-use Rattle.judging.specs.declared.Verdict.the-variants.{Accepted, Refused}
-use Rattle.judging.specs.Judging.{verdictOf, screenedAs, treeOrRefusal, openedAs, Room, RowRoom, Stands, Opens, offsetsOf, Examined}
-use Rattle.judging.specs.Least.{no-fault, judged-fault, judged-none, few-clean}
+use Rattle.examining.specs.declared.Screened.{Screened}
+use Rattle.examining.specs.declared.Screened.the-variants as screened
+use Rattle.examining.specs.declared.Opened.{Opened}
+use Rattle.examining.specs.declared.Opened.the-variants as opened
+use Rattle.examining.specs.Examining.{screenedAs, treeOrRefusal, openedAs, Room, RowRoom, Stands, Opens, offsetsOf, Examined}
+use Rattle.examining.specs.Least.{no-fault, judged-fault, judged-none, few-clean}
 
 -- ---- rules 1 and 2
 
@@ -67,11 +65,8 @@ module _ (x : List ℕ) {r : Screened} (h : screenedAs r ≡ screening x) where
   unfolding screenedAs
   passed-verdict e = screened-left x h e .1
 
-  pub passed-judged : (a : Verdict) → r ≡ screened.Passed → verdictOf a ≡ parsed (read x) → verdictOf a ≡ verdict x
-  passed-judged a e j = j ∙ sym (passed-verdict e)
-
-  pub screened-refused : {f : Refusal} → r ≡ screened.Refused f → verdictOf (Refused f) ≡ verdict x
-  unfolding screenedAs verdictOf
+  pub screened-refused : {f : Refusal} → r ≡ screened.Refused f → refusal f ≡ verdict x
+  unfolding screenedAs
   screened-refused e = sym (screened-left x h e)
 
 -- ---- rules 3 and 4
@@ -80,8 +75,8 @@ module _ (x t₀ t : List ℕ) {r : Opened} (h : Opens x t₀ t r) where
   pub opened-tree : {n : ℕ} → r ≡ opened.Tree n → Stands x t n
   opened-tree e = h .holds _ e .tree
 
-  pub opened-refused : {f : Refusal} → r ≡ opened.Refused f → verdictOf (Refused f) ≡ parsed (read x)
-  unfolding verdictOf openedAs treeOrRefusal parsed
+  pub opened-refused : {f : Refusal} → r ≡ opened.Refused f → refusal f ≡ parsed (read x)
+  unfolding openedAs treeOrRefusal parsed
   opened-refused {f} e = by (read x) (sym (ap openedAs e) ∙ h .is)
     where
       by : (o : Outcome) → inr (refusal f) ≡ treeOrRefusal o → refusal f ≡ parsed o
@@ -96,18 +91,12 @@ module _ {x t : List ℕ} {n : ℕ} {w : Walked} (s : Stands x t n) (h : Examine
   pub clean : noFault ≤ w .least → faults (s .value) ≡ []
   clean k = no-fault (s .value) (in-text x (s .value) (s .short) (s .reads)) (h .least (s .value) (s .reads)) k
 
-  pub table-refused : (f : Refusal) → w .least < noFault → refusal f ≡ refused (ruleOf (w .least)) (placeIn (w .least))
-      → verdictOf (Refused f) ≡ parsed (read x)
-  unfolding verdictOf parsed
+  pub table-refused : (f : Refusal) → w .least < noFault → refusal f ≡ refused (ruleOf (w .least)) (placeIn (w .least)) → refusal f ≡ parsed (read x)
+  unfolding parsed
   table-refused f k e = e ∙ sym (ap parsed (s .reads) ∙ judged-fault (s .value) (h .least (s .value) (s .reads)) k)
 
-  -- by any bound up to that of all faults
-  pub table-below : (f : Refusal) (b : ℕ) → w .least < b → leb b noFault ≡ true → refusal f ≡ refused (ruleOf (w .least)) (placeIn (w .least))
-      → verdictOf (Refused f) ≡ parsed (read x)
-  table-below f b l k e = table-refused f (omega (arith, leb-true b noFault k)) e
-
-  pub table-accepted : noFault ≤ w .least → verdictOf (Accepted (w .index .count)) ≡ parsed (read x)
-  unfolding verdictOf parsed
+  pub table-accepted : noFault ≤ w .least → accepted (w .index .count) ≡ parsed (read x)
+  unfolding parsed
   table-accepted k =
       let few = few-clean (s .value) (clean k) in
       let counted = h .indexed (s .value) (s .reads) .count in

@@ -10,16 +10,15 @@ use lib.ListN.{length, getD}
 use Rattle.utf8.specs.Ascii.{ascii}
 use Rattle.utf8.specs.Utf8.{same}
 use Rattle.json.specs.Tree.{Json, null, bool, num, str, arr, obj, Items, noItems, _▸_, Members, empty, member}
-use Rattle.json.specs.Table.{Sub, size, sizes, widths}
+use Rattle.json.specs.Table.{size, sizes, widths}
 use Rattle.json.specs.Laws.{size-pos}
 use Rattle.nodes.specs.Access.{elements, listed, members, pairs, Member, nameOf, firstNamed, find}
 use Rattle.nodes.specs.Unique.{unique}
 use Rattle.fields.specs.Fields.{elementsIn, listedIn, membersIn, objectsOf}
-use Rattle.ids.specs.Says.{Offsets}
 use Rattle.ids.proofs.Rules.{nobody}
 use Rattle.rows.specs.Rows.{listedCount}
 use Rattle.rows.specs.Says.{RoomFor}
-use Rattle.judging.specs.Judging.{RowRoom, Linked}
+use Rattle.examining.specs.Examining.{RowRoom, Linked}
 
 -- ---- the words of a tree
 
