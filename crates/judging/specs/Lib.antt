@@ -1,4 +1,2 @@
--- What judge and its parts answer, the least fault of a tree, and laws of both.
+-- What judge answers.
 pub mod Judging
-pub mod Least
-pub mod Laws

@@ -22,7 +22,7 @@ use Rattle.refusals.specs.declared.Refusal.{Refusal}
 use Rattle.judging.specs.declared.Verdict.{Verdict as Answer}
 use Rattle.judging.specs.declared.Verdict.the-variants.{Accepted, Refused}
 use Rattle.judging.specs.Judging.{verdictOf}
-use Rattle.judging.specs.Least.{few-clean}
+use Rattle.examining.specs.Least.{few-clean}
 use Rattle.laying.specs.declared.Answer as laid-answer
 use Rattle.laying.specs.declared.Answer.the-variants as answers
 use Rattle.laying.specs.Laying.{answered}

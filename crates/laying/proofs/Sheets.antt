@@ -1,7 +1,7 @@
 -- What the functions that lay use: an accepted text's table is as the writers ask, and what they wrote is the sheet.
 use Prim.Native.Nat.{ℕ, _+_, _-_, _^_, _≤_, _<_}
 use native.Mathlib.Omega.{arith}
-use mathlib.Core.Path.{_≡_, refl, sym, ap, _∙_, subst}
+use mathlib.Core.Path.{_≡_, sym, ap, _∙_, subst}
 use mathlib.Core.List.{List, [], _++_, map}
 use lib.ListN.{length, take, drop, replicate, length-replicate}
 use borrow.Author.Needs.{needs}
@@ -34,14 +34,13 @@ use Rattle.records.specs.Says.{Ready, SheetWrote}
 use Rattle.refusals.specs.Refusals.{ruleNumber, refusal}
 use Rattle.refusals.specs.declared.Broken.the-variants as broken
 use Rattle.refusals.specs.declared.Refusal.{Refusal}
-use Rattle.judging.specs.declared.Screened.{Screened}
-use Rattle.judging.specs.declared.Screened.the-variants as screened
-use Rattle.judging.specs.declared.Opened.{Opened}
-use Rattle.judging.specs.declared.Opened.the-variants as opened
-use Rattle.judging.specs.declared.Verdict.the-variants.{Refused}
-use Rattle.judging.specs.Judging.{verdictOf, screenedAs, Stands, Opens, Examined, RowsOf}
-use Rattle.judging.specs.Laws.{passed-short, passed-verdict, screened-refused, opened-tree, opened-refused, table-refused, clean, index-offsets, lent-offsets, room-long, table-long, tree-words}
-use Rattle.judging.specs.Least.{few-clean, judged-none}
+use Rattle.examining.specs.declared.Screened.{Screened}
+use Rattle.examining.specs.declared.Screened.the-variants as screened
+use Rattle.examining.specs.declared.Opened.{Opened}
+use Rattle.examining.specs.declared.Opened.the-variants as opened
+use Rattle.examining.specs.Examining.{screenedAs, Stands, Opens, Examined, RowsOf}
+use Rattle.examining.specs.Laws.{passed-short, passed-verdict, screened-refused, opened-tree, opened-refused, table-refused, clean, index-offsets, lent-offsets, room-long, table-long, tree-words}
+use Rattle.examining.specs.Least.{few-clean, judged-none}
 use Rattle.laying.specs.declared.Answer.the-variants as answers
 use Rattle.laying.specs.Laying.{answered, Zeroes, Clean, CleanBy, Lays}
 
@@ -53,8 +52,8 @@ zeroed {d} n e = e ∙ ap (λ k. replicate k 0) (sym (ap length e ∙ length-rep
 
 -- ---- a refusal
 
-pub refuses : {x d : List ℕ} {v : verdict.Verdict} (f : Refusal) → verdictOf (Refused f) ≡ v → Zeroes d → Lays x v d d (answered (answers.Refused f))
-unfolding verdictOf answered fitted filled Zeroes
+pub refuses : {x d : List ℕ} {v : verdict.Verdict} (f : Refusal) → refusal f ≡ v → Zeroes d → Lays x v d d (answered (answers.Refused f))
+unfolding answered fitted filled Zeroes
 refuses f e z = record { gives = rw (← e); leaves = z }
 
 pub lay-refused : {x t d : List ℕ} {n : ℕ} {w : Walked} (f : Refusal) → Stands x t n → Examined x t w → w .least < noFault → refusal f ≡ verdict.refused (ruleOf (w .least)) (placeIn (w .least))

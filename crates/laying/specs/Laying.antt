@@ -9,7 +9,7 @@ use Rattle.json.specs.Machine.{read, reads}
 use Rattle.fields.specs.Fields.{objectsOf}
 use Rattle.fields.specs.declared.Index.{Index}
 use Rattle.ids.specs.Says.{Offsets}
-use Rattle.judging.specs.Judging.{Rows, offsetsOf}
+use Rattle.examining.specs.Examining.{Rows, offsetsOf}
 use Rattle.verdict.specs.Verdict as verdict
 use Rattle.sheets.specs.Laid as laid
 use Rattle.refusals.specs.Refusals.{ruleNumber}

@@ -5,11 +5,11 @@ ghost use lib.ListN.{length};
 ghost use Rattle.verdict.specs.Verdict.{parsed};
 ghost use Rattle.json.specs.Machine.{read};
 ghost use Rattle.sheets.specs.Laid.{answer, roomAfter};
-ghost use Rattle.judging.specs.Judging.{Stands, Room, RowRoom};
+ghost use Rattle.examining.specs.Examining.{Stands, Room, RowRoom};
 ghost use Rattle.laying.specs.Laying.{answered, Zeroes, Clean, CleanBy, Lays};
+use examining::Opened;
+use examining::Screened;
 use fields::Index;
-use judging::Opened;
-use judging::Screened;
 use nodes::NO_FAULT;
 use refusals::Broken;
 use refusals::Refusal;
@@ -74,7 +74,7 @@ fn lay_table(
         × (RowRoom (now text) (now table) (now parents)) × (Zeroes (now sheet)) ⌝ }
     ensures { λ r. ⌜ Lays (now (text .entry)) (parsed (read (now (text .entry)))) (now (sheet .entry)) (now (sheet .exit)) (answered r) ⌝ }
 {
-    let walked = judging::examine(text, table, n, children, parents);
+    let walked = examining::examine(text, table, n, children, parents);
     let fault = walked.least;
     if fault < NO_FAULT {
         return Answer::Refused(refusals::refuse_fault(fault));
@@ -138,7 +138,7 @@ fn lay_in(text: &[u8], table: &mut [u32], sheet: &mut [u8]) -> Answer
     requires { ⌜ (Room (now text) (now table)) × (length (now table) ≤ 98352) × (Zeroes (now sheet)) ⌝ }
     ensures { λ r. ⌜ Lays (now (text .entry)) (parsed (read (now (text .entry)))) (now (sheet .entry)) (now (sheet .exit)) (answered r) ⌝ }
 {
-    let opened = judging::open(text, table);
+    let opened = examining::open(text, table);
     match opened {
         Opened::Tree(n) => lay_tree(text, table, n, sheet),
         Opened::Refused(refusal) => Answer::Refused(refusal),
@@ -183,7 +183,7 @@ pub fn lay(text: &[u8], sheet: &mut [u8]) -> Answer
     ensures { λ r. ⌜ now (sheet .exit) ≡ roomAfter (now (text .entry)) (length (now (sheet .entry))) ⌝ }
 {
     writer::clear(sheet);
-    let screened = judging::screen(text);
+    let screened = examining::screen(text);
     match screened {
         Screened::Passed => lay_json(text, sheet),
         Screened::Refused(refusal) => Answer::Refused(refusal),

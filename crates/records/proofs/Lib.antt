@@ -1,6 +1,4 @@
 -- What the proofs of several functions use.
-pub mod Texts
-pub mod Nodes
 pub mod Members
 pub mod Payloads
 pub mod LinkRows

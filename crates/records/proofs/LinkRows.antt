@@ -1,7 +1,6 @@
 -- The numbers of linked objects.
 use Prim.Native.Nat.{ℕ, _+_, _-_, _≤_, _<_}
 use Prim.Native.String.{String}
-use native.Mathlib.Omega.{arith}
 use mathlib.Core.Path.{_≡_, refl, sym, ap, _∙_}
 use mathlib.Core.List.{List, [], _∷_, _++_, map, append-assoc, append-nil}
 use mathlib.Core.Option.{Option, none, some}
@@ -18,8 +17,10 @@ use Rattle.model.specs.Read.{orNull}
 use Rattle.writer.specs.Writes.{Writes, Stores, Closes}
 use Rattle.writer.specs.Laws.{nothing, then, as-bytes}
 use Rattle.arrays.specs.Fits.{Elements}
-use Rattle.records.specs.Fits.{Perhaps, Text}
-use Rattle.records.specs.Bytes.{eachIn, numbersIn}
+use Rattle.geometries.specs.Fits.{Perhaps}
+use Rattle.geometries.specs.Bytes.{eachIn}
+use Rattle.records.specs.Fits.{Text}
+use Rattle.records.specs.Bytes.{numbersIn}
 use Rattle.records.specs.Says.{linkBytes, LinksWrote}
 
 -- ---- a row

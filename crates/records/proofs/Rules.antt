@@ -1,56 +1,38 @@
 -- What `search` is handed to close what the functions leave.
 use borrow.Author.Needs.{needs}
 use Rattle.nodes.specs.Reads.{node-room, node-onward}
-use Rattle.fields.specs.Laws.{at-node, at-room, at-onward, sought-in, string-node}
+use Rattle.fields.specs.Laws.{sought-in}
 use Rattle.ids.proofs.Rules.{member-onward, member-text, text-first, text-second, text-some, text-fits, text-span}
-use Rattle.arrays.specs.Laws.{laying-begin, laying-same, laying-item, laying-start, laying-room, laying-less, laying-turn}
-use Rattle.records.proofs.Texts.{quotes-none, quotes-other, quotes-string, lod-room, major-low, minor-low, lod-product, lod-sum, lod-both, lod-whole, lod-parted, surface-added, surface-listed}
-use Rattle.records.proofs.Nodes.{wrote-onward, found-onward, found-holds, any-elements, laying-node, each-none, each-other, each-done, each-some, each-all}
-use Rattle.records.proofs.Members.{there-at, there-none, led, leaves-led, pairs-led, named-there, quotes-in, transform-scale, transform-translate, surfaces-none, surfaces-some, values-named, values-led}
-use Rattle.records.proofs.Members.{shape-lod, lod-quoted, lod-wrote, boundary-named, boundary-led, geometry-typed, object-typed, surface-typed, semantics-none, semantics-some, semantics-there, geometry-shape, geometry-semantics}
-use Rattle.records.proofs.Payloads.{id-wrote, identity-parts, identity-closed, member-wrote-onward, transform-parts, semantics-wrote, geometry-wrote, shape-parts}
+use Rattle.geometries.proofs.Nodes.{wrote-onward}
+use Rattle.geometries.proofs.Members.{led, named-there}
+use Rattle.records.proofs.Members.{pairs-led, transform-scale, transform-translate, object-typed}
+use Rattle.records.proofs.Payloads.{id-wrote, identity-parts, identity-closed, member-wrote-onward, transform-parts}
 use Rattle.records.proofs.LinkRows.{numbering-start, numbering-turn, numbering-done, link-wrote, payload-onward, links-wrote}
-use Rattle.records.proofs.Whole.{geometries-found, geometries-wrote, object-wrote, objecting-start, objecting-member, objecting-fits, objecting-below, objecting-above, objecting-turn, objecting-done, root-transform, root-vertices, transform-led, vertices-led, frame-wrote, ending-wrote, ready-root, ready-placed, sheet-wrote}
-
--- a node that was found, and a string there
-pub ruleset found = (node-room, node-onward, at-node, at-room, at-onward, string-node, sought-in, found-holds, wrote-onward, found-onward)
-
--- a loop over the elements of an array that was found
-pub ruleset arrays = (laying-begin, laying-start, laying-item, laying-room, laying-less, laying-turn, any-elements, laying-node, laying-same, each-none, each-other, each-done, each-some, each-all)
+use Rattle.records.proofs.Whole.{object-geometries, object-wrote, objecting-start, objecting-member, objecting-fits, objecting-below, objecting-above, objecting-turn, objecting-done}
+use Rattle.records.proofs.Whole.{root-transform, root-vertices, transform-led, vertices-led, frame-wrote, ending-wrote, ready-root, ready-placed, sheet-wrote}
 
 -- a member, and its name
-pub ruleset names = (member-onward, member-text, text-first, text-second, text-some, text-fits, text-span)
+pub ruleset names = (node-room, node-onward, sought-in, member-onward, member-text, text-first, text-second, text-some, text-fits, text-span)
 
--- a string that was found, a lod and a surface's type
-pub ruleset texts = (quotes-none, quotes-other, quotes-string, lod-room, major-low, minor-low, lod-product, lod-sum, lod-both, lod-whole, lod-parted, surface-added, surface-listed)
+-- the members of the transform, and the type of an object
+pub ruleset members = (led, pairs-led, named-there, transform-scale, transform-translate, object-typed)
 
--- the numbers of linked objects
-pub ruleset links = (needs, numbering-start, numbering-turn, numbering-done, link-wrote, payload-onward, links-wrote)
+-- what comes together in a record
+pub ruleset payloads = (id-wrote, identity-parts, transform-parts)
 
--- a member of a value
-pub ruleset members = (there-at, there-none, led, leaves-led, pairs-led, named-there, quotes-in)
-
--- the members of a transform and of semantics
-pub ruleset fitting = (transform-scale, transform-translate, surfaces-none, surfaces-some, values-named, values-led, semantics-none, semantics-some, semantics-there)
-
--- the members of a geometry, and the type of an object and of a surface
-pub ruleset shapes = (shape-lod, lod-quoted, lod-wrote, boundary-named, boundary-led, geometry-shape, geometry-semantics, geometry-typed, object-typed, surface-typed)
+pub ruleset records = (needs, names, members, payloads)
 
 -- a header around a payload
 pub ruleset headers = (needs, wrote-onward, member-wrote-onward, identity-closed)
 
--- what comes together in a record
-pub ruleset payloads = (id-wrote, identity-parts, transform-parts, semantics-wrote, geometry-wrote, shape-parts)
-
-pub ruleset records = (needs, found, arrays, names, texts, members, fitting, shapes, payloads)
+-- the numbers of linked objects
+pub ruleset links = (needs, numbering-start, numbering-turn, numbering-done, link-wrote, payload-onward, links-wrote)
 
 -- an object, and the loop over all of them
 pub ruleset whole = (
   needs,
-  sought-in,
   member-onward,
-  geometries-found,
-  geometries-wrote,
+  object-geometries,
   object-wrote,
   objecting-start,
   objecting-member,

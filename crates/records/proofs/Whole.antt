@@ -7,10 +7,7 @@ use mathlib.Core.List.{List, [], _∷_, _++_, append-assoc, append-nil}
 use lib.ListN.{length, getD, drop, drop-of-length-le}
 use lib.Seq.{drop-cons}
 use Rattle.utf8.specs.Ascii.{ascii}
-use Rattle.nodes.specs.Access.{Member, members, firstNamed, find}
-use Rattle.nodes.specs.Says.{Seeks}
-use Rattle.nodes.specs.declared.Found.{Found}
-use Rattle.shapes.specs.Laws.{seeks-find}
+use Rattle.nodes.specs.Access.{Member, members, find}
 use Rattle.fields.specs.Fields.{objectsOf}
 use Rattle.ids.specs.Says.{Offsets, MemberNode, namesOf}
 use Rattle.ids.proofs.Rules.{nobody}
@@ -22,25 +19,22 @@ use Rattle.model.specs.Read.{get}
 use Rattle.writer.specs.Writes.{Writes, Closes}
 use Rattle.writer.specs.Laws.{nothing, then, as-bytes}
 use Rattle.arrays.specs.Fits.{Elements, Triple, Coordinate}
-use Rattle.arrays.specs.Says.{Holds, Wrote, WroteFound}
+use Rattle.arrays.specs.Says.{Holds, Wrote}
 use Rattle.arrays.specs.Laws.{holds-at, holds-as}
-use Rattle.records.specs.Fits.{GeometryFits, ObjectFits, TransformFits, RootFits}
-use Rattle.records.specs.Bytes.{eachIn, geometryBytes, identityBytes, objectBytes, transformBytes, verticesBytes}
+use Rattle.geometries.specs.Fits.{Perhaps, GeometryFits}
+use Rattle.geometries.specs.Members.{Named, Leads, geometriesMember}
+use Rattle.geometries.proofs.Members.{has-named, wrote-led}
+use Rattle.records.specs.Fits.{ObjectFits, TransformFits, RootFits}
+use Rattle.records.specs.Bytes.{identityBytes, objectBytes, transformBytes, verticesBytes}
 use Rattle.records.specs.Parts.{object-parts, sheet-parts}
-use Rattle.records.specs.Members.{Named, Leads, geometriesMember, transformMember, verticesMember, frameBytes}
-use Rattle.records.specs.Says.{HoldsFound, linkBytes, LinksWrote, IdentityWrote, ObjectWrote, Placed, ObjectsWrote, Ready, SheetWrote}
-use Rattle.records.proofs.Members.{perhaps-found, wrote-member, has-named, wrote-led}
+use Rattle.records.specs.Members.{transformMember, verticesMember, frameBytes}
+use Rattle.records.specs.Says.{linkBytes, LinksWrote, IdentityWrote, ObjectWrote, Placed, ObjectsWrote, Ready, SheetWrote}
 use Rattle.records.proofs.LinkRows.{row-bytes}
 
 -- ---- one object
 
-module _ {x t : List ℕ} {i : ℕ} {found : Found} (f : Seeks (λ v. firstNamed (ascii "geometry") (members v)) x t i found) where
-  pub geometries-found : Holds ObjectFits x t i → HoldsFound (Elements GeometryFits) x t found
-  geometries-found h = perhaps-found "geometry" (seeks-find "geometry" refl f) (Elements GeometryFits) (holds-as (λ v f. f .geometries) h)
-
-  pub geometries-wrote : {d₀ d : List ℕ} {to r : ℕ} → WroteFound (eachIn geometryBytes) x t found d₀ d to r → Wrote geometriesMember x t i d₀ d to r
-  unfolding geometriesMember
-  geometries-wrote w = wrote-member "geometry" (seeks-find "geometry" refl f) w
+pub object-geometries : {x t : List ℕ} {i : ℕ} → Holds ObjectFits x t i → Holds (Perhaps (Elements GeometryFits) "geometry") x t i
+object-geometries h = holds-as (λ v f. f .geometries) h
 
 pub object-wrote : {x t : List ℕ} {own : ℕ} {children parents d₀ d₁ d₂ d₃ : List ℕ} {at a b r : ℕ}
     → Holds ObjectFits x t (own + 3) → IdentityWrote x t own d₀ d₁ at a → LinksWrote children parents d₁ d₂ a b → Wrote geometriesMember x t (own + 3) d₂ d₃ b r

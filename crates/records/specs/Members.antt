@@ -1,49 +1,17 @@
--- What the writers ask and tell of the members of a value, and of the payload of a record. A name is written as bytes.
-use mathlib.Core.Path.{_≡_}
-use mathlib.Core.Bool.{true}
+-- What the writers ask and tell of the members of an object and of the root, and of the payload of their records. A name is written as bytes.
 use mathlib.Core.List.{List, _++_}
-use mathlib.Core.Option.{some}
 use Prim.Native.Nat.{ℕ}
 use Rattle.utf8.specs.Ascii.{ascii}
 use Rattle.utf8.specs.Bytes.{le}
-use Rattle.strings.specs.Spans.{Span, decodeAt}
 use Rattle.json.specs.Tree.{Json}
-use Rattle.json.specs.Table.{Sub}
-use Rattle.nodes.specs.Access.{Member, elements, members, nameOf, firstNamed, find}
-use Rattle.words.specs.Words.{objectWords, codeOf, isLod, depth, valuesDepth}
-use Rattle.fields.specs.Fields.{textIn, typeText}
+use Rattle.nodes.specs.Access.{Member, members, nameOf, firstNamed}
+use Rattle.words.specs.Words.{objectWords, codeOf}
+use Rattle.fields.specs.Fields.{typeText}
 use Rattle.fields.specs.Says.{MemberAt}
-use Rattle.model.specs.Code.{concatMap}
-use Rattle.model.specs.Model.{layThree, layDecimal, lodCode, layNest, layValues, laySurface}
-use Rattle.model.specs.Read.{get, orNull, decimalOf, indexOf, valueOf, threeOf, nestOf, lodOf, surfaceNamed}
+use Rattle.model.specs.Model.{layThree, layDecimal}
+use Rattle.model.specs.Read.{get, orNull, decimalOf, threeOf}
 use Rattle.writer.specs.Writes.{Writes}
-use Rattle.records.specs.Bytes.{eachIn, surfaceBytes, valuesBytes, semanticsIn, geometryBytes, transformBytes, verticesBytes}
-use Rattle.records.specs.declared.Quote.{Quote}
-
--- ---- a member
-
--- the member of that name is there
-pub record There (name : List ℕ) (v : Json) : Type 0 where
-  pub value : Json
-  pub found : firstNamed name (members v) ≡ some value
-
--- and P holds of it
-pub record Named (P : Json → Type 0) (name : List ℕ) (v : Json) : Type 0 where
-  pub there : There name v
-  pub holds : P (there .value)
-
--- the member of that name of the value at the node i stands at the node r
-pub record Leads (name x t : List ℕ) (i r : ℕ) : Type 0 where
-  pub is : (v : Json) → Sub x t i v → (w : Json) × (firstNamed name (members v) ≡ some w) × Sub x t r w
-
--- q is where the bytes of the member of that name stand; no bytes, if there is none that is a string
-pub record QuotesIn (name x t : List ℕ) (i : ℕ) (q : Quote) : Type 0 where
-  pub span : Span x (q .from) (q .to)
-  pub text : (v : Json) → Sub x t i v → decodeAt x (q .from) (q .to) ≡ textIn (firstNamed name (members v))
-
--- the lod of a geometry
-unfoldable pub LodFits : Json → Type 0
-LodFits v = isLod (textIn (find "lod" v)) ≡ true
+use Rattle.records.specs.Bytes.{transformBytes, verticesBytes}
 
 -- the bytes that f gives for the object whose name stands at the node `own` were to be written
 pub record MemberWrote (f : Member → List ℕ) (x t : List ℕ) (own : ℕ) (d₀ d : List ℕ) (to r : ℕ) : Type 0 where
@@ -54,29 +22,6 @@ pub record MemberWrote (f : Member → List ℕ) (x t : List ℕ) (own : ℕ) (d
 -- three pairs
 unfoldable pub pairsMember : List ℕ → Json → List ℕ
 pairsMember name v = layThree layDecimal (threeOf decimalOf (orNull (firstNamed name (members v))))
-
--- the lod of a geometry
-unfoldable pub lodMember : Json → List ℕ
-lodMember v = le 2 (lodCode (lodOf (textIn (find "lod" v))))
-
--- the boundary of a geometry of that code
-unfoldable pub boundaryMember : ℕ → Json → List ℕ
-boundaryMember code v = layNest (depth code) (nestOf indexOf (depth code) (get "boundaries" v))
-
--- the semantics of a geometry of that code
-unfoldable pub semanticsMember : ℕ → Json → List ℕ
-semanticsMember code v = semanticsIn code (find "semantics" v)
-
--- the surfaces and the values of semantics
-unfoldable pub surfacesMember : Json → List ℕ
-surfacesMember v = eachIn surfaceBytes (find "surfaces" v)
-
-unfoldable pub valuesMember : ℕ → Json → List ℕ
-valuesMember code v = valuesBytes code (get "values" v)
-
--- the geometries of an object
-unfoldable pub geometriesMember : Json → List ℕ
-geometriesMember v = eachIn geometryBytes (find "geometry" v)
 
 -- the transform and the vertices of the root, and both
 unfoldable pub transformMember : Json → List ℕ
@@ -90,18 +35,6 @@ frameBytes v = transformMember v ++ verticesMember v
 
 -- ---- the payload of a record
 
--- a surface
-unfoldable pub surfacePayload : Json → List ℕ
-surfacePayload v = laySurface (surfaceNamed (textIn (find "type" v)))
-
--- the values of semantics
-unfoldable pub valuesPayload : ℕ → Json → List ℕ
-valuesPayload code v = layValues (valuesDepth code) (nestOf valueOf (valuesDepth code) (get "values" v))
-
--- a geometry's type, lod and boundary
-unfoldable pub shapePayload : ℕ → Json → List ℕ
-shapePayload code v = le 2 code ++ lodMember v ++ boundaryMember code v
-
 -- an object's type and ID
 unfoldable pub identityPayload : Member → List ℕ
 identityPayload m = le 2 (codeOf objectWords (typeText (m .1))) ++ nameOf m
@@ -109,9 +42,3 @@ identityPayload m = le 2 (codeOf objectWords (typeText (m .1))) ++ nameOf m
 -- the transform
 unfoldable pub transformPayload : Json → List ℕ
 transformPayload v = layThree layDecimal (threeOf decimalOf (get "scale" v)) ++ layThree layDecimal (threeOf decimalOf (get "translate" v))
-
--- ---- an array
-
--- what f gives for the elements of a value, one after the other
-unfoldable pub each : (Json → List ℕ) → Json → List ℕ
-each f v = concatMap f (elements v)

@@ -1,16 +1,12 @@
 -- What the writers of records ask and tell.
 use mathlib.Core.Path.{_≡_}
 use mathlib.Core.List.{List, _++_}
-use mathlib.Core.Option.{Option, some}
 use Prim.Native.Nat.{ℕ, _+_, _<_}
 use lib.ListN.{length, getD}
-use Rattle.strings.specs.Spans.{Span, decodeAt}
 use Rattle.json.specs.Tree.{Json}
 use Rattle.json.specs.Table.{Sub}
 use Rattle.nodes.specs.Access.{Member}
-use Rattle.nodes.specs.Says.{Finds, Sought}
-use Rattle.nodes.specs.declared.Found.{Found}
-use Rattle.fields.specs.Fields.{textIn, objectsOf}
+use Rattle.fields.specs.Fields.{objectsOf}
 use Rattle.fields.specs.Says.{MemberAt}
 use Rattle.ids.specs.Says.{Offsets, Objects, namesOf}
 use Rattle.rows.specs.Rows.{linkNumbers}
@@ -23,17 +19,6 @@ use Rattle.writer.specs.Writes.{Writes}
 use Rattle.arrays.specs.Says.{Holds}
 use Rattle.records.specs.Fits.{ObjectFits, RootFits}
 use Rattle.records.specs.Bytes.{identityBytes, objectBytes}
-use Rattle.records.specs.declared.Quote.{Quote}
-
--- if something was found, P holds of it
-pub record HoldsFound (P : Json → Type 0) (x t : List ℕ) (found : Found) : Type 0 where
-  pub sought : Sought x t found
-  pub holds : (v : Json) → Finds x t (some v) found → P v
-
--- q is where the bytes of the string that was found stand; no bytes, if no string was found
-pub record Quotes (x t : List ℕ) (found : Found) (q : Quote) : Type 0 where
-  pub span : Span x (q .from) (q .to)
-  pub text : (o : Option Json) → Finds x t o found → decodeAt x (q .from) (q .to) ≡ textIn o
 
 -- a record of that kind with the numbers of a row
 unfoldable pub linkBytes : ℕ → List ℕ → List ℕ

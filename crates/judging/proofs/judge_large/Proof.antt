@@ -1,7 +1,7 @@
 -- `judging::judge_large` meets its contract.
 use mathlib.Core.Path.{refl}
 use native.Mathlib.Omega.{arith}
-use Rattle.judging.specs.Laws.{rows-room}
+use Rattle.examining.specs.Laws.{rows-room}
 use Rattle.judging.proofs.Rules.{rooms}
 use Rattle.judging.proofs.judge_large.Statement.{statement}
 use Rattle.judging.proofs.judge_large.Tie as tie

@@ -1,7 +1,7 @@
 -- `judging::judge_small` meets its contract.
 use mathlib.Core.Path.{refl}
 use native.Mathlib.Omega.{arith}
-use Rattle.judging.specs.Laws.{rows-room}
+use Rattle.examining.specs.Laws.{rows-room}
 use Rattle.judging.proofs.Rules.{rooms}
 use Rattle.judging.proofs.judge_small.Statement.{statement}
 use Rattle.judging.proofs.judge_small.Tie as tie

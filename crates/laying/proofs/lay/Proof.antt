@@ -1,5 +1,5 @@
 -- `laying::lay` meets its contract.
-use Rattle.judging.specs.Laws.{passed-short, screened-refused}
+use Rattle.examining.specs.Laws.{passed-short, screened-refused}
 use Rattle.laying.proofs.Sheets.{zeroed, refuses, passed-lay, lay-answer}
 use Rattle.laying.proofs.Sheets.{lays}
 use Rattle.laying.proofs.lay.Statement.{statement}

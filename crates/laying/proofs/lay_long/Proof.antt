@@ -1,6 +1,6 @@
 -- `laying::lay_long` meets its contract.
 use mathlib.Core.Path.{refl}
-use Rattle.judging.specs.Laws.{room-long, table-long}
+use Rattle.examining.specs.Laws.{room-long, table-long}
 use Rattle.laying.proofs.Sheets.{rooms}
 use Rattle.laying.proofs.lay_long.Statement.{statement}
 use Rattle.laying.proofs.lay_long.Tie as tie

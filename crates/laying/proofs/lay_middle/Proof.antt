@@ -1,7 +1,7 @@
 -- `laying::lay_middle` meets its contract.
 use mathlib.Core.Path.{refl}
 use native.Mathlib.Omega.{arith}
-use Rattle.judging.specs.Laws.{rows-room}
+use Rattle.examining.specs.Laws.{rows-room}
 use Rattle.laying.proofs.Sheets.{rooms}
 use Rattle.laying.proofs.lay_middle.Statement.{statement}
 use Rattle.laying.proofs.lay_middle.Tie as tie

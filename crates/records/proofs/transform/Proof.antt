@@ -1,5 +1,6 @@
 -- `records::transform` meets its contract.
-use Rattle.records.proofs.Payloads.{closed, transform-record}
+use Rattle.geometries.proofs.Payloads.{closed}
+use Rattle.records.proofs.Payloads.{transform-record}
 use Rattle.records.proofs.Rules.{headers}
 use Rattle.records.proofs.transform.Statement.{statement}
 use Rattle.records.proofs.transform.Tie as tie

@@ -1,5 +1,6 @@
 -- `records::vertices` meets its contract.
-use Rattle.records.proofs.Payloads.{closed, vertices-record}
+use Rattle.geometries.proofs.Payloads.{closed}
+use Rattle.records.proofs.Payloads.{vertices-record}
 use Rattle.records.proofs.Rules.{headers}
 use Rattle.records.proofs.vertices.Statement.{statement}
 use Rattle.records.proofs.vertices.Tie as tie

@@ -1,0 +1,11 @@
+-- `geometries::lod` meets its contract.
+use Rattle.utf8.specs.Ascii.{ascii}
+use Rattle.geometries.proofs.Rules.{geometries}
+use Rattle.geometries.proofs.lod.Statement.{statement}
+use Rattle.geometries.proofs.lod.Tie as tie
+
+pub lod-spec : {M : Type 1} → statement M
+unfolding ascii
+lod-spec =
+    tie.close (tie.spec (λ c. search geometries) (λ c κs. search geometries) (λ c κs. search geometries) (λ c κs. search geometries) (λ c. search geometries)
+    (λ c. search geometries))

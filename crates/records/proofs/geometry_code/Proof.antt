@@ -1,9 +1,0 @@
--- `records::geometry_code` meets its contract.
-use Rattle.utf8.specs.Ascii.{ascii}
-use Rattle.records.proofs.Rules.{records}
-use Rattle.records.proofs.geometry_code.Statement.{statement}
-use Rattle.records.proofs.geometry_code.Tie as tie
-
-pub geometry-code-spec : {M : Type 1} → statement M
-unfolding ascii
-geometry-code-spec = tie.close (tie.spec (λ c. search records) (λ c κs. search records) (λ c κs. search records) (λ c. search records))

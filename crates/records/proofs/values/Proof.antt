@@ -1,9 +1,0 @@
--- `records::values` meets its contract.
-use Rattle.records.proofs.Members.{values-named}
-use Rattle.records.proofs.Payloads.{values-closed}
-use Rattle.records.proofs.Rules.{headers}
-use Rattle.records.proofs.values.Statement.{statement}
-use Rattle.records.proofs.values.Tie as tie
-
-pub values-spec : {M : Type 1} → statement M
-values-spec = tie.close (tie.spec (λ c κs. search headers) (λ c κs. search values-named) (λ c κs. search headers) (λ c. search headers) (λ c. search values-closed))
