@@ -95,7 +95,7 @@ module _ {x t q q₁ : List ℕ} {c c₁ e : ℕ} (k : ℕ) {us : List (List ℕ
     more = record { has = λ w h. has-if w (same (textAt x t k) w) refl h; are = λ f l a. are-if f (eqb f e) refl l a }
 
 -- the name at the node k, and what the code finds of it
-pub entry-lost : {x t q q₁ : List ℕ} {c k : ℕ} (b : ℕ) → length q₁ ≡ 262144 → EntryGives x t q c q₁ 0 k b b
+pub entry-lost : {x t q q₁ : List ℕ} {c k : ℕ} (b : ℕ) → length q₁ ≡ 327680 → EntryGives x t q c q₁ 0 k b b
 entry-lost b n = record { room = n; told = λ z. absurd (z refl) }
 
 -- the entry of the name at the node k
@@ -120,7 +120,7 @@ module _ {x t : List ℕ} {v k : ℕ} where
         record { none = λ z. absurd (n z); some = λ m z. (refl, sym g ∙ not-false r l, o ∙ (ap (min b) h ∙ ap (λ (a : ℕ). min b (fault 6 a)) q)) }
 
 module _ {x t q q₁ : List ℕ} {c c₁ k e : ℕ} (d : EntryAt x t q c k) (w : Walks q c 0 (textAt x t k) q₁ c₁ e) where
-  pub entry-room : length q₁ ≡ 262144
+  pub entry-room : length q₁ ≡ 327680
   entry-room = w .room
 
   module _ (z : c₁ ≡ 0 → ⊥) where

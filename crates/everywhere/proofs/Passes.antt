@@ -221,7 +221,11 @@ finished {rule = rule} {own} {x} {t} {n} {k} {b} {all} l h z = go (l .left) (l .
     go (d ∷ ds) e p = absurd (omega arith)
 
 pub pass-begin : (P : ℕ → Type 0) (rule : ℕ) (own : Part → List ℕ) {x t : List ℕ} {n : ℕ} (b : ℕ) → Root x t n → Pass P rule own x t n b 0 b
-pass-begin P rule own b d = record { root = d; left = λ v s. record { left = parts v; stand = row s; ends = omega (arith, parts-size v, words s .next, words (d .stands) .next, d .ends); holds = λ z. refl } }
+pass-begin P rule own b d =
+    record {
+      root = d;
+      left = λ v s. record { left = parts v; stand = row s; ends = omega (arith, parts-size v, words s .next, words (d .stands) .next, d .ends); holds = λ z. refl };
+    }
 
 module _ {P : ℕ → Type 0} {rule : ℕ} {own : Part → List ℕ} {x t : List ℕ} {n b₀ k b : ℕ} (c : Pass P rule own x t n b₀ k b) where
   pub pass-part : k < n → AnyPart x t k

@@ -298,7 +298,7 @@ module _ {x t : List ℕ} {i : ℕ} where
 -- the same loop by a trie, which has c entries
 pub record Enters (x t q : List ℕ) (c i first n b₀ k b : ℕ) : Type 0 where
   pub sweeps : Sweeps Always x t i first n b₀ k b (Entries x t q c)
-  pub room : length q ≡ 262144
+  pub room : length q ≡ 327680
   later : 3 ≤ k
   some : 0 < c
   few : c ≤ 65536
@@ -337,7 +337,7 @@ module _ {x t : List ℕ} {i : ℕ} where
     pub enter-done : n ≤ k → PartGives 6 own6 x t i b₀ b
     enter-done h = sweep-done (s .sweeps) h
 
-    pub enter-room : length q ≡ 262144
+    pub enter-room : length q ≡ 327680
     enter-room = s .room
 
 pub ruleset names = (
@@ -365,7 +365,25 @@ pub ruleset names = (
   walk-less,
 )
 
-pub ruleset sweeps = (needs, any-first, any-third, any-onward, any-inside, repeated-none, repeated-told, sweep-begin, sweep-name, sweep-long, sweep-seen, sweep-again, sweep-onward, sweep-done, sweep-told, walk-onward, walk-less)
+pub ruleset sweeps = (
+  needs,
+  any-first,
+  any-third,
+  any-onward,
+  any-inside,
+  repeated-none,
+  repeated-told,
+  sweep-begin,
+  sweep-name,
+  sweep-long,
+  sweep-seen,
+  sweep-again,
+  sweep-onward,
+  sweep-done,
+  sweep-told,
+  walk-onward,
+  walk-less,
+)
 
 pub ruleset threads = (needs, any-third, thread-begin, thread-name, thread-again, sweep-told, walk-less)
 

@@ -49,7 +49,7 @@ pub record EntryAt (x t q : List ℕ) (c k : ℕ) : Type 0 where
   pub name : NameText x t k
   pub short : length x ≤ 65535
   pub later : 3 ≤ k
-  pub room : length q ≡ 262144
+  pub room : length q ≡ 327680
   pub some : 0 < c
   pub few : c ≤ 65536
 
@@ -61,5 +61,5 @@ pub record EntryTold (x t q : List ℕ) (c : ℕ) (q′ : List ℕ) (c′ k b r 
 
 -- the same, unless the way was given up (c′ is 0)
 pub record EntryGives (x t q : List ℕ) (c : ℕ) (q′ : List ℕ) (c′ k b r : ℕ) : Type 0 where
-  pub room : length q′ ≡ 262144
+  pub room : length q′ ≡ 327680
   pub told : (c′ ≡ 0 → ⊥) → EntryTold x t q c q′ c′ k b r

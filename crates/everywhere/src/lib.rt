@@ -312,11 +312,11 @@ fn same_names(text: &[u8], table: &[u32], i: usize, j: usize) -> bool
 fn entry_of(
     text: &[u8],
     table: &[u32],
-    trie: &mut [u16; 262144],
+    trie: &mut [u16; 327680],
     count: usize,
     k: usize,
 ) -> trie::Place
-    requires { ⌜ (NameText (now text) (now table) k) × (0 < count) × (count ≤ 65536) × (length (now trie) ≡ 262144) ⌝ }
+    requires { ⌜ (NameText (now text) (now table) k) × (0 < count) × (count ≤ 65536) × (length (now trie) ≡ 327680) ⌝ }
     ensures { λ r. ⌜ Walks (now (trie .entry)) count 0 (textAt (now (text .entry)) (now (table .entry)) k) (now (trie .exit)) (r .count) (r .entry) ⌝ }
 {
     let from = nodes::start(table, k);
@@ -352,7 +352,7 @@ fn entry_fault(text: &[u8], table: &[u32], v: usize, k: usize, count: usize, bes
 fn entry_at(
     text: &[u8],
     table: &[u32],
-    trie: &mut [u16; 262144],
+    trie: &mut [u16; 327680],
     count: usize,
     k: usize,
     best: u32,
@@ -388,9 +388,9 @@ fn entry_at(
 }
 
 // Rule 6 at a node, if an object stands there, by a trie of its names.
-fn entered_in(text: &[u8], table: &[u32], trie: &mut [u16; 262144], i: usize, best: u32) -> u32
-    requires { ⌜ (AnyPart (now text) (now table) i) × (length (now trie) ≡ 262144) ⌝ }
-    ensures { λ r. ⌜ (PartGives 6 own6 (now (text .entry)) (now (table .entry)) i best r) × (length (now (trie .exit)) ≡ 262144) ⌝ }
+fn entered_in(text: &[u8], table: &[u32], trie: &mut [u16; 327680], i: usize, best: u32) -> u32
+    requires { ⌜ (AnyPart (now text) (now table) i) × (length (now trie) ≡ 327680) ⌝ }
+    ensures { λ r. ⌜ (PartGives 6 own6 (now (text .entry)) (now (table .entry)) i best r) × (length (now (trie .exit)) ≡ 327680) ⌝ }
 {
     let at = nodes::start(table, i);
     if text[at] != b'{' {
@@ -418,7 +418,7 @@ fn entered(text: &[u8], table: &[u32], n: usize, best: u32) -> u32
     requires { ⌜ Root (now text) (now table) n ⌝ }
     ensures { λ r. ⌜ Gives (λ v. least best (map (fault 6) (rule6 v))) (now (text .entry)) (now (table .entry)) 0 r ⌝ }
 {
-    let mut trie: [u16; 262144] = [0; 262144];
+    let mut trie: [u16; 327680] = [0; 327680];
     let mut least = best;
     let mut k = 0;
     while k < n {

@@ -1,191 +1,239 @@
 -- What `search` is handed to close what the functions leave.
-use Prim.Native.Nat.{ℕ, _+_, _*_, _≤_, _<_}
+use Prim.Native.Nat.{ℕ, _+_, _*_, _/_, _%_, _≤_, _<_}
 use native.Mathlib.Omega.{arith}
-use native.Mathlib.Nat.{add-zero}
 use mathlib.Core.Path.{_≡_, refl, sym, ap, _∙_}
 use mathlib.Core.Bool.{Bool, true, false}
 use mathlib.Core.List.{List, [], _∷_, _++_, append-nil, append-assoc}
 use lib.ListN.{length, getD, set, length-set}
 use lib.Seq.{getD-set-same, getD-set-other}
-use lib.Dec.{eqb, ltb}
-use borrow.Author.Tests.{eqb-true, eqb-false, ltb-true, ltb-false}
+use lib.Dec.{ltb}
+use borrow.Author.Tests.{ltb-true, ltb-false}
 use borrow.Author.Needs.{needs}
 use Rattle.strings.specs.Spans.{Span, decodeAt, ahead, Steps}
 use Rattle.strings.specs.Laws.{onward, at-plain, at-end, step-done, step-byte, step-span, step-nearer, ahead-start}
 use Rattle.strings.specs.declared.Cursor.{Cursor}
 use Rattle.strings.specs.declared.Step.{Step}
 use Rattle.strings.specs.declared.Step.the-variants.{Byte, Done}
-use Rattle.trie.specs.Trie.{firstOf, nextOf, byteOf, valueOf, Leads, none, here, next, Child, Reaches, stop, on, Grown, Keeps, Walked, Sought, Walks, Emptied, Puts}
-use Rattle.trie.specs.Laws.{leads-unique}
+use Rattle.trie.specs.Trie.{byteOf, valueOf, Meets, none, here, next, Child, Reaches, stop, on, Grown, Keeps, Walked, Sought, Walks, Emptied, Puts}
 
--- ---- the search among siblings
+-- ---- the search among children
 
--- what is found from the entry e on is found from the entry `first` on
-pub record Seeks (t : List ℕ) (b first e : ℕ) : Type 0 where
-  pub low : e < 65536
-  goes : (r : ℕ) → Leads t b e r → Leads t b first r
+-- the slot that is found from the slot q on is the one that is found from the entry s on
+pub record Seeks (t : List ℕ) (c b s q m : ℕ) : Type 0 where
+  pub low : q < c * 5
+  goes : (z : ℕ) → Meets t c b q m z → Meets t c b (s * 5) b z
 
-module _ {t : List ℕ} {b first : ℕ} where
-  pub seek-begin : first < 65536 → Seeks t b first first
-  seek-begin l = record { low = l; goes = λ r p. p }
+module _ {t : List ℕ} {c b s : ℕ} where
+  pub seek-begin : {a m : ℕ} → s < c → a ≡ b → m ≡ a → Seeks t c b s (s * 5) m
+  seek-begin {a} {m} l e f = record { low = omega arith; goes = λ z p. rw (f ∙ e) at p }
 
-  module _ {e : ℕ} (k : Seeks t b first e) where
-    pub seek-low : (e ≡ 0 → ⊥) → e < 65536
-    seek-low n = k .low
+  module _ {q m : ℕ} (k : Seeks t c b s q m) where
+    pub seek-low : c ≤ 65536 → q < 327680
+    seek-low h = omega (arith, k .low)
 
-    pub seek-found : {a : ℕ} → (e ≡ 0 → ⊥) → a ≡ b → byteOf t e ≡ a → Sought t b first e
-    seek-found n z q = record { told = λ l. k .goes e (here n (q ∙ z)) }
+    module _ {e : ℕ} (o : e ≡ getD t q 0) where
+      pub seek-none : e ≡ 0 → Sought t c b s q
+      seek-none z = record { told = λ l. k .goes q (none (k .low) (sym o ∙ z)) }
 
-    pub seek-again : {a m : ℕ} → (e ≡ 0 → ⊥) → a ≡ b → (byteOf t e ≡ a → ⊥) → m ≡ nextOf t e → m < e → Seeks t b first m
-    seek-again n z q o l = record { low = omega (arith, k .low); goes = λ r p. k .goes r (next n (λ y. q (y ∙ sym z)) (rw (← o) l) (rw (← o) p)) }
+      module _ (n : e ≡ 0 → ⊥) (l : e < c) {a : ℕ} (i : a ≡ b) where
+        pub seek-found : byteOf t e ≡ a → Sought t c b s q
+        seek-found p = record { told = λ j. k .goes q (here (k .low) (rw (← o) l) (λ z. n (o ∙ z)) (rw (← o) (p ∙ i))) }
 
-    pub seek-none : e ≡ 0 → Sought t b first 0
-    seek-none z = let y : Leads t b e 0 = rw z none in record { told = λ l. k .goes 0 y }
+        pub seek-again : (byteOf t e ≡ a → ⊥) → Seeks t c b s (e * 5 + 1 + m % 2) (m / 2)
+        seek-again d =
+            record { low = omega arith; goes = λ z p. k .goes z (next (k .low) (rw (← o) l) (λ z. n (o ∙ z)) (λ y. d (rw o y ∙ sym i)) (rw (← o) p)) }
 
-  pub seek-lost : Sought t b first 65536
+  pub seek-lost : Sought t c b s 327680
   seek-lost = record { told = λ l. absurd (omega arith) }
 
-pub ruleset seeks = (needs, seek-begin, seek-low, seek-found, seek-again, seek-none, seek-lost)
+pub ruleset seeks = (needs, seek-begin, seek-low, seek-none, seek-found, seek-again, seek-lost)
 
 -- ---- one entry more
 
-same-in : (t : List ℕ) (i v : ℕ) → length t ≡ 262144 → i < 262144 → getD (set t i v) i 0 ≡ v
+same-in : (t : List ℕ) (i v : ℕ) → length t ≡ 327680 → i < 327680 → getD (set t i v) i 0 ≡ v
 same-in t i v n l = getD-set-same t i v 0 (rw n l)
 
-set-room : (t : List ℕ) (i v : ℕ) → length t ≡ 262144 → length (set t i v) ≡ 262144
+set-room : (t : List ℕ) (i v : ℕ) → length t ≡ 327680 → length (set t i v) ≡ 327680
 set-room t i v n = length-set t i v ∙ n
 
-pub grown : (t : List ℕ) (s c b w : ℕ) → s < c → c < 65536 → length t ≡ 262144 → w ≡ b
-    → Grown t (set (set (set (set (set t (c * 4) 0) (c * 4 + 1) (firstOf t s)) (c * 4 + 2) w) (c * 4 + 3) 0) (s * 4) c) s c b
-grown t s c b w l h n q =
+pub grown : (t : List ℕ) (w c b a : ℕ) → w < c * 5 → c < 65536 → length t ≡ 327680 → a ≡ b
+    → Grown t (set (set (set (set (set (set t (c * 5) 0) (c * 5 + 1) 0) (c * 5 + 2) 0) (c * 5 + 3) a) (c * 5 + 4) 0) w c) w c b
+grown t w c b a l h n q =
     record {
-      room = set-room t₄ (s * 4) c r₄;
-      head = same-in t₄ (s * 4) c r₄ (omega arith);
-      first =
-          past₅ (c * 4) (λ z. omega arith)
-          ∙ (past₄ (c * 4) (λ z. omega arith) ∙ (past₃ (c * 4) (λ z. omega arith) ∙ (past₂ (c * 4) (λ z. omega arith) ∙ same-in t (c * 4) 0 n (omega arith))));
-      next =
-          past₅ (c * 4 + 1) (λ z. omega arith)
-          ∙ (past₄ (c * 4 + 1) (λ z. omega arith) ∙ (past₃ (c * 4 + 1) (λ z. omega arith) ∙ same-in t₁ (c * 4 + 1) (firstOf t s) r₁ (omega arith)));
-      byte = past₅ (c * 4 + 2) (λ z. omega arith) ∙ (past₄ (c * 4 + 2) (λ z. omega arith) ∙ (same-in t₂ (c * 4 + 2) w r₂ (omega arith) ∙ q));
-      value = past₅ (c * 4 + 3) (λ z. omega arith) ∙ same-in t₃ (c * 4 + 3) 0 r₃ (omega arith);
-      firsts = λ e k d. past₅ (e * 4) (λ z. d (omega arith)) ∙ old (e * 4) (omega arith);
-      nexts = λ e k. past₅ (e * 4 + 1) (λ z. omega arith) ∙ old (e * 4 + 1) (omega arith);
-      bytes = λ e k. past₅ (e * 4 + 2) (λ z. omega arith) ∙ old (e * 4 + 2) (omega arith);
-      values = λ e k. past₅ (e * 4 + 3) (λ z. omega arith) ∙ old (e * 4 + 3) (omega arith);
+      room = set-room t₅ w c r₅;
+      held = same-in t₅ w c r₅ (omega arith);
+      child =
+          past₆ (c * 5) (λ z. omega arith)
+          ∙ (past₅ (c * 5) (λ z. omega arith)
+          ∙ (past₄ (c * 5) (λ z. omega arith) ∙ (past₃ (c * 5) (λ z. omega arith) ∙ (past₂ (c * 5) (λ z. omega arith) ∙ same-in t (c * 5) 0 n (omega arith)))));
+      left =
+          past₆ (c * 5 + 1) (λ z. omega arith)
+          ∙ (past₅ (c * 5 + 1) (λ z. omega arith)
+          ∙ (past₄ (c * 5 + 1) (λ z. omega arith) ∙ (past₃ (c * 5 + 1) (λ z. omega arith) ∙ same-in t₁ (c * 5 + 1) 0 r₁ (omega arith))));
+      right =
+          past₆ (c * 5 + 2) (λ z. omega arith)
+          ∙ (past₅ (c * 5 + 2) (λ z. omega arith) ∙ (past₄ (c * 5 + 2) (λ z. omega arith) ∙ same-in t₂ (c * 5 + 2) 0 r₂ (omega arith)));
+      byte = past₆ (c * 5 + 3) (λ z. omega arith) ∙ (past₅ (c * 5 + 3) (λ z. omega arith) ∙ (same-in t₃ (c * 5 + 3) a r₃ (omega arith) ∙ q));
+      value = past₆ (c * 5 + 4) (λ z. omega arith) ∙ same-in t₄ (c * 5 + 4) 0 r₄ (omega arith);
+      others = λ i k d. past₆ i d ∙ old i k;
     }
   where
     t₁ : List ℕ
-    t₁ = set t (c * 4) 0
+    t₁ = set t (c * 5) 0
 
     t₂ : List ℕ
-    t₂ = set t₁ (c * 4 + 1) (firstOf t s)
+    t₂ = set t₁ (c * 5 + 1) 0
 
     t₃ : List ℕ
-    t₃ = set t₂ (c * 4 + 2) w
+    t₃ = set t₂ (c * 5 + 2) 0
 
     t₄ : List ℕ
-    t₄ = set t₃ (c * 4 + 3) 0
+    t₄ = set t₃ (c * 5 + 3) a
 
-    r₁ : length t₁ ≡ 262144
-    r₁ = set-room t (c * 4) 0 n
+    t₅ : List ℕ
+    t₅ = set t₄ (c * 5 + 4) 0
 
-    r₂ : length t₂ ≡ 262144
-    r₂ = set-room t₁ (c * 4 + 1) (firstOf t s) r₁
+    r₁ : length t₁ ≡ 327680
+    r₁ = set-room t (c * 5) 0 n
 
-    r₃ : length t₃ ≡ 262144
-    r₃ = set-room t₂ (c * 4 + 2) w r₂
+    r₂ : length t₂ ≡ 327680
+    r₂ = set-room t₁ (c * 5 + 1) 0 r₁
 
-    r₄ : length t₄ ≡ 262144
-    r₄ = set-room t₃ (c * 4 + 3) 0 r₃
+    r₃ : length t₃ ≡ 327680
+    r₃ = set-room t₂ (c * 5 + 2) 0 r₂
 
-    past₂ : (i : ℕ) → (i ≡ c * 4 + 1 → ⊥) → getD t₂ i 0 ≡ getD t₁ i 0
-    past₂ i d = getD-set-other t₁ (c * 4 + 1) i (firstOf t s) 0 d
+    r₄ : length t₄ ≡ 327680
+    r₄ = set-room t₃ (c * 5 + 3) a r₃
 
-    past₃ : (i : ℕ) → (i ≡ c * 4 + 2 → ⊥) → getD t₃ i 0 ≡ getD t₂ i 0
-    past₃ i d = getD-set-other t₂ (c * 4 + 2) i w 0 d
+    r₅ : length t₅ ≡ 327680
+    r₅ = set-room t₄ (c * 5 + 4) 0 r₄
 
-    past₄ : (i : ℕ) → (i ≡ c * 4 + 3 → ⊥) → getD t₄ i 0 ≡ getD t₃ i 0
-    past₄ i d = getD-set-other t₃ (c * 4 + 3) i 0 0 d
+    past₂ : (i : ℕ) → (i ≡ c * 5 + 1 → ⊥) → getD t₂ i 0 ≡ getD t₁ i 0
+    past₂ i d = getD-set-other t₁ (c * 5 + 1) i 0 0 d
 
-    past₅ : (i : ℕ) → (i ≡ s * 4 → ⊥) → getD (set t₄ (s * 4) c) i 0 ≡ getD t₄ i 0
-    past₅ i d = getD-set-other t₄ (s * 4) i c 0 d
+    past₃ : (i : ℕ) → (i ≡ c * 5 + 2 → ⊥) → getD t₃ i 0 ≡ getD t₂ i 0
+    past₃ i d = getD-set-other t₂ (c * 5 + 2) i 0 0 d
 
-    old : (i : ℕ) → i < c * 4 → getD t₄ i 0 ≡ getD t i 0
-    old i k = past₄ i (λ z. omega arith) ∙ (past₃ i (λ z. omega arith) ∙ (past₂ i (λ z. omega arith) ∙ getD-set-other t (c * 4) i 0 0 (λ z. omega arith)))
+    past₄ : (i : ℕ) → (i ≡ c * 5 + 3 → ⊥) → getD t₄ i 0 ≡ getD t₃ i 0
+    past₄ i d = getD-set-other t₃ (c * 5 + 3) i a 0 d
+
+    past₅ : (i : ℕ) → (i ≡ c * 5 + 4 → ⊥) → getD t₅ i 0 ≡ getD t₄ i 0
+    past₅ i d = getD-set-other t₄ (c * 5 + 4) i 0 0 d
+
+    past₆ : (i : ℕ) → (i ≡ w → ⊥) → getD (set t₅ w c) i 0 ≡ getD t₅ i 0
+    past₆ i d = getD-set-other t₅ w i c 0 d
+
+    old : (i : ℕ) → i < c * 5 → getD t₅ i 0 ≡ getD t i 0
+    old i k =
+        past₅ i (λ z. omega arith)
+        ∙ (past₄ i (λ z. omega arith) ∙ (past₃ i (λ z. omega arith) ∙ (past₂ i (λ z. omega arith) ∙ getD-set-other t (c * 5) i 0 0 (λ z. omega arith))))
 
 pub ruleset grows = (needs, grown)
 
 -- ---- what a trie with one entry more keeps
 
-leads-low : {t : List ℕ} {b e r : ℕ} → Leads t b e r → r ≤ e
-leads-low none = omega arith
-leads-low (here n q) = omega arith
-leads-low (next n q l p) = omega (arith, leads-low p)
+meets-room : {t : List ℕ} {c b q m z : ℕ} → Meets t c b q m z → z < c * 5
+meets-room (none h q) = h
+meets-room (here h l n q) = h
+meets-room (next h l n q p) = meets-room p
 
-pub child-low : {t : List ℕ} {c s b r : ℕ} → Child t c s b r → r < c
-child-low p = omega (arith, leads-low (p .leads), p .low)
+-- a slot is one of the first three words of its entry
+meets-slot : {t : List ℕ} {c b q m z : ℕ} → q % 5 < 3 → Meets t c b q m z → z % 5 < 3
+meets-slot k (none h q) = k
+meets-slot k (here h l n q) = k
+meets-slot k (next h l n q p) = meets-slot (omega arith) p
 
-module _ {t t′ : List ℕ} {s c b : ℕ} (g : Grown t t′ s c b) (l : s < c) where
-  leads-kept : {a e r : ℕ} → e < c → Leads t a e r → Leads t′ a e r
-  leads-kept h none = none
-  leads-kept {e = e} h (here n q) = here n (g .bytes e h ∙ q)
-  leads-kept {e = e} {r = r} h (next n q k p) = let z = g .nexts e h in next {r = r} n (λ y. q (sym (g .bytes e h) ∙ y)) (rw z k) (rw z (leads-kept (omega (arith, k)) p))
+meets-low : {t : List ℕ} {c b q m z : ℕ} → Meets t c b q m z → (getD t z 0 ≡ 0 → ⊥) → getD t z 0 < c
+meets-low (none h q) n = absurd (n q)
+meets-low (here h l u q) n = l
+meets-low (next h l u q p) n = meets-low p n
 
-  -- the byte b led nowhere from the entry s
-  module _ (lost : Leads t b (firstOf t s) 0) where
-    child-of-s : {a r : ℕ} → Child t c s a r → Child t′ (c + 1) s a r
-    child-of-s {a} {r} p =
-        record {
-          inside = omega arith;
-          low = omega (arith, g .head);
-          leads =
-              rw (g .head)
-              (next {e = c} {r = r} (λ z. omega arith) (λ y. p .some (leads-unique (p .leads) (rw (sym y ∙ g .byte) lost)))
-              (omega (arith, g .next, p .low)) (rw (g .next) (leads-kept (p .low) (p .leads))));
-          some = p .some;
-        }
+module _ {t t′ : List ℕ} {w c b : ℕ} (g : Grown t t′ w c b) (h : w < c * 5) (k : w % 5 < 3) (f : getD t w 0 ≡ 0) where
+  slot-kept : (q : ℕ) → q < c * 5 → (getD t q 0 ≡ 0 → ⊥) → getD t′ q 0 ≡ getD t q 0
+  slot-kept q l n = g .others q l (λ z. n (ap (λ (i : ℕ). getD t i 0) z ∙ f))
 
-    child-if : {a f r : ℕ} (d : Bool) → eqb f s ≡ d → Child t c f a r → Child t′ (c + 1) f a r
-    child-if {a} {f} {r} true e p = let z : f ≡ s = eqb-true f s e in rw z (child-of-s (rw (← z) p))
-    child-if {a} {f} {r} false e p =
-        let z : firstOf t′ f ≡ firstOf t f = g .firsts f (p .inside) (eqb-false f s e) in
-        record { inside = omega (arith, p .inside); low = omega (arith, z, p .low); leads = rw z (leads-kept (p .low) (p .leads)); some = p .some }
+  byte-kept : (e : ℕ) → e < c → byteOf t′ e ≡ byteOf t e
+  byte-kept e l = g .others (e * 5 + 3) (omega arith) (λ z. omega arith)
 
-    reaches-kept : {f r : ℕ} {u : List ℕ} → Reaches t c f u r → Reaches t′ (c + 1) f u r
-    reaches-kept stop = stop
-    reaches-kept (on p q) = on (child-if _ refl p) (reaches-kept q)
+  meets-kept : {a q m z : ℕ} → Meets t c a q m z → (getD t z 0 ≡ 0 → ⊥) → Meets t′ (c + 1) a q m z
+  meets-kept (none l o) n = absurd (n o)
+  meets-kept {q = q} (here l i o p) n =
+      let y = slot-kept q l o in
+      here {q = q} (omega arith) (omega (arith, y)) (λ z. o (sym y ∙ z)) (rw y (byte-kept (getD t q 0) i ∙ p))
+  meets-kept {q = q} {m = m} {z = z} (next l i o p j) n =
+      let y = slot-kept q l o in
+      next {q = q} {m = m} {z = z} (omega arith) (omega (arith, y)) (λ z. o (sym y ∙ z)) (λ d. p (sym (byte-kept (getD t q 0) i) ∙ rw y at d)) (rw y (meets-kept j n))
 
-    child-new : Child t′ (c + 1) s b c
-    child-new = record { inside = omega arith; low = omega (arith, g .head); leads = rw (g .head) (here {e = c} (λ z. omega arith) (g .byte)); some = λ z. omega arith }
+  -- the byte b leads to the new entry where it led nowhere
+  meets-new : {q m z : ℕ} → Meets t c b q m z → z ≡ w → Meets t′ (c + 1) b q m z
+  meets-new {q = q} (none l o) e =
+      let y : getD t′ q 0 ≡ c = ap (λ (i : ℕ). getD t′ i 0) e ∙ g .held in
+      here {q = q} (omega arith) (omega (arith, y)) (λ z. omega (arith, y)) (rw y (g .byte))
+  meets-new {q = q} (here l i o p) e = absurd (o (ap (λ (i : ℕ). getD t i 0) e ∙ f))
+  meets-new {q = q} {m = m} {z = z} (next l i o p j) e =
+      let y = slot-kept q l o in
+      next {q = q} {m = m} {z = z} (omega arith) (omega (arith, y)) (λ z. o (sym y ∙ z)) (λ d. p (sym (byte-kept (getD t q 0) i) ∙ rw y at d)) (rw y (meets-new j e))
 
-    value-if : (e : ℕ) → c ≤ e → e < c + 1 → valueOf t′ e ≡ 0
-    value-if e h k = let z : e ≡ c = omega arith in rw z (g .value)
+  child-kept : {s a r : ℕ} → Child t c s a r → Child t′ (c + 1) s a r
+  child-kept p =
+      let n : getD t (p .slot) 0 ≡ 0 → ⊥ = λ z. p .some (sym (p .is) ∙ z) in
+      record { inside = omega (arith, p .inside); slot = p .slot; meets = meets-kept (p .meets) n; is = slot-kept (p .slot) (meets-room (p .meets)) n ∙ p .is; some = p .some }
 
-    keeps-grown : Keeps t c t′ (c + 1)
-    keeps-grown = record { more = omega arith; reaches = λ f u r p. reaches-kept p; values = λ e h. g .values e h; fresh = value-if }
+  reaches-kept : {s r : ℕ} {u : List ℕ} → Reaches t c s u r → Reaches t′ (c + 1) s u r
+  reaches-kept stop = stop
+  reaches-kept (on p q) = on (child-kept p) (reaches-kept q)
+
+  child-new : {s : ℕ} → s < c → Meets t c b (s * 5) b w → Child t′ (c + 1) s b c
+  child-new l p = record { inside = omega arith; slot = w; meets = meets-new p refl; is = g .held; some = λ z. omega arith }
+
+  fresh-value : (e : ℕ) → c ≤ e → e < c + 1 → valueOf t′ e ≡ 0
+  fresh-value e l j = let z : e ≡ c = omega arith in rw z (g .value)
+
+  keeps-grown : Keeps t c t′ (c + 1)
+  keeps-grown =
+      record {
+        more = omega arith;
+        reaches = λ s u r p. reaches-kept p;
+        values = λ e l. g .others (e * 5 + 4) (omega arith) (λ z. omega arith);
+        fresh = fresh-value;
+      }
 
 -- ---- one byte
 
-pub walks-lost : (t : List ℕ) (c s : ℕ) (u t′ : List ℕ) (r : ℕ) → length t′ ≡ 262144 → Walks t c s u t′ 0 r
+pub walks-lost : (t : List ℕ) (c s : ℕ) (u t′ : List ℕ) (r : ℕ) → length t′ ≡ 327680 → Walks t c s u t′ 0 r
 walks-lost t c s u t′ r n = record { room = n; told = λ z. absurd (z refl) }
 
 keeps-same : (t : List ℕ) (c : ℕ) → Keeps t c t c
 keeps-same t c = record { more = omega arith; reaches = λ s u r p. p; values = λ e h. refl; fresh = λ e h k. absurd (omega arith) }
 
-pub walks-child :
-    {t : List ℕ} {c s b first m : ℕ} → s < c → c ≤ 65536 → length t ≡ 262144 → first ≡ firstOf t s → first < c → Sought t b first m → m < c → (m ≡ 0 → ⊥) → Walks t c s (b ∷ []) t c m
-walks-child {t} {c} {s} {b} {first} {m} l h n q k f d z =
-    let p : Child t c s b m = record { inside = l; low = rw (← q) k; leads = rw (← q) (f .told (omega arith)); some = z } in
-    record { room = n; told = λ o. record { keeps = keeps-same t c; reaches = on p stop; inside = d; few = h } }
+module _ {t : List ℕ} {c s b w : ℕ} (f : Sought t c b s w) (i : w < 327680) where
+  pub sought-room : w < c * 5
+  sought-room = meets-room (f .told i)
 
-pub walks-grown :
-    {t t′ : List ℕ} {c s b first m : ℕ} → s < c → c < 65536 → first ≡ firstOf t s → Sought t b first m → m ≡ 0 → Grown t t′ s c b → Walks t c s (b ∷ []) t′ (c + 1) c
-walks-grown {t} {t′} {c} {s} {b} {first} {m} l h q f z g =
-    let p : Leads t b (firstOf t s) 0 = rw (← q, ← z) (f .told (omega arith)) in
-    record { room = g .room; told = λ o. record { keeps = keeps-grown g l p; reaches = on (child-new g l p) stop; inside = omega arith; few = omega arith } }
+  pub sought-slot : w % 5 < 3
+  sought-slot = meets-slot (omega arith) (f .told i)
 
-pub ruleset steps = (needs, walks-lost, walks-child, walks-grown)
+  module _ {m : ℕ} (q : m ≡ getD t w 0) (l : s < c) where
+    pub walks-child : c ≤ 65536 → length t ≡ 327680 → (m ≡ 0 → ⊥) → Walks t c s (b ∷ []) t c m
+    walks-child h n z =
+        let d : m < c = rw q (meets-low (f .told i) (λ y. z (q ∙ y))) in
+        let p : Child t c s b m = record { inside = l; slot = w; meets = f .told i; is = sym q; some = z } in
+        record { room = n; told = λ o. record { keeps = keeps-same t c; reaches = on p stop; inside = d; few = h } }
+
+    pub walks-grown : {t′ : List ℕ} → c < 65536 → m ≡ 0 → Grown t t′ w c b → Walks t c s (b ∷ []) t′ (c + 1) c
+    walks-grown h z g =
+        let y : getD t w 0 ≡ 0 = sym q ∙ z in
+        record {
+          room = g .room;
+          told = λ o. record {
+            keeps = keeps-grown g sought-room sought-slot y;
+            reaches = on (child-new g sought-room sought-slot y l (f .told i)) stop;
+            inside = omega arith;
+            few = omega arith;
+          };
+        }
+
+pub ruleset steps = (needs, sought-room, sought-slot, walks-lost, walks-child, walks-grown)
 
 -- ---- the bytes of a text
 
@@ -212,12 +260,12 @@ module _ {t t₁ t′ : List ℕ} {c c₁ c′ : ℕ} (k : Keeps t c t₁ c₁) 
 
 -- the bytes `all` from the entry s₀ on: those before `rest` lead to the entry s
 pub record Walking (t₀ : List ℕ) (c₀ s₀ : ℕ) (all t : List ℕ) (c s : ℕ) (rest : List ℕ) : Type 0 where
-  pub room : length t ≡ 262144
+  pub room : length t ≡ 327680
   before : List ℕ
   is : all ≡ before ++ rest
   walked : Walked t₀ c₀ s₀ before t c s
 
-pub walking-begin : {t : List ℕ} {c s : ℕ} (all : List ℕ) → s < c → c ≤ 65536 → length t ≡ 262144 → Walking t c s all t c s all
+pub walking-begin : {t : List ℕ} {c s : ℕ} (all : List ℕ) → s < c → c ≤ 65536 → length t ≡ 327680 → Walking t c s all t c s all
 walking-begin {t} {c} {s} all l h n = record { room = n; before = []; is = refl; walked = record { keeps = keeps-same t c; reaches = stop; inside = l; few = h } }
 
 module _ {t₀ : List ℕ} {c₀ s₀ : ℕ} {all t : List ℕ} {c s : ℕ} {rest : List ℕ} (k : Walking t₀ c₀ s₀ all t c s rest) where
@@ -227,7 +275,7 @@ module _ {t₀ : List ℕ} {c₀ s₀ : ℕ} {all t : List ℕ} {c s : ℕ} {res
   pub walking-few : c ≤ 65536
   walking-few = k .walked .few
 
-  pub walking-room : length t ≡ 262144
+  pub walking-room : length t ≡ 327680
   walking-room = k .room
 
   -- the rest leads on
@@ -295,40 +343,41 @@ pub ruleset walks = (needs, onward, walking-begin, walking-inside, walking-few, 
 
 -- ---- values
 
-pub emptied : (t : List ℕ) → length t ≡ 262144 → Emptied (set (set t 0 0) 3 0)
+pub emptied : (t : List ℕ) → length t ≡ 327680 → Emptied (set (set t 0 0) 4 0)
 emptied t n =
     let r = set-room t 0 0 n in
     record {
-      room = set-room (set t 0 0) 3 0 r;
-      child = getD-set-other (set t 0 0) 3 0 0 0 (λ z. omega arith) ∙ same-in t 0 0 n (omega arith);
-      value = same-in (set t 0 0) 3 0 r (omega arith);
+      room = set-room (set t 0 0) 4 0 r;
+      child = getD-set-other (set t 0 0) 4 0 0 0 (λ z. omega arith) ∙ same-in t 0 0 n (omega arith);
+      value = same-in (set t 0 0) 4 0 r (omega arith);
     }
 
-module _ (t t′ : List ℕ) (h : (i e : ℕ) → i < 3 → getD t′ (e * 4 + i) 0 ≡ getD t (e * 4 + i) 0) where
-  first-same : (e : ℕ) → firstOf t′ e ≡ firstOf t e
-  first-same e = rw add-zero at (h 0 e (omega arith))
-
-  leads-same : {b e r : ℕ} → Leads t b e r → Leads t′ b e r
-  leads-same none = none
-  leads-same {e = e} (here n q) = here n (h 2 e (omega arith) ∙ q)
-  leads-same {e = e} {r = r} (next n q k p) =
-      let z = h 1 e (omega arith) in
-      next {r = r} n (λ y. q (sym (h 2 e (omega arith)) ∙ y)) (rw z k) (rw z (leads-same p))
+module _ (t t′ : List ℕ) (h : (i : ℕ) → i % 5 < 4 → getD t′ i 0 ≡ getD t i 0) where
+  meets-same : {c b q m z : ℕ} → q % 5 < 3 → Meets t c b q m z → Meets t′ c b q m z
+  meets-same {q = q} k (none l o) = none l (h q (omega arith) ∙ o)
+  meets-same {q = q} k (here l i o p) =
+      let y = h q (omega arith) in
+      here {q = q} l (rw y i) (λ z. o (sym y ∙ z)) (rw y (h (getD t q 0 * 5 + 3) (omega arith) ∙ p))
+  meets-same {q = q} {m = m} {z = z} k (next l i o p j) =
+      let y = h q (omega arith) in
+      next {q = q} {m = m} {z = z} l (rw y i) (λ z. o (sym y ∙ z)) (λ d. p (sym (h (getD t q 0 * 5 + 3) (omega arith)) ∙ rw y at d)) (rw y (meets-same (omega arith) j))
 
   child-same : {c s b r : ℕ} → Child t c s b r → Child t′ c s b r
-  child-same {s = s} p = let z = first-same s in record { inside = p .inside; low = rw z (p .low); leads = rw z (leads-same (p .leads)); some = p .some }
+  child-same {s = s} p =
+      let k : p .slot % 5 < 3 = meets-slot (omega arith) (p .meets) in
+      record { inside = p .inside; slot = p .slot; meets = meets-same (omega arith) (p .meets); is = h (p .slot) (omega arith) ∙ p .is; some = p .some }
 
   reaches-same : {c s r : ℕ} {u : List ℕ} → Reaches t c s u r → Reaches t′ c s u r
   reaches-same stop = stop
   reaches-same (on p q) = on (child-same p) (reaches-same q)
 
-pub put-told : (t : List ℕ) (e v : ℕ) → e < 65536 → length t ≡ 262144 → Puts t (set t (e * 4 + 3) v) e v
+pub put-told : (t : List ℕ) (e v : ℕ) → e < 65536 → length t ≡ 327680 → Puts t (set t (e * 5 + 4) v) e v
 put-told t e v l n =
     record {
-      room = set-room t (e * 4 + 3) v n;
-      value = same-in t (e * 4 + 3) v n (omega arith);
-      values = λ f d. getD-set-other t (e * 4 + 3) (f * 4 + 3) v 0 (λ z. d (omega arith));
-      reaches = λ c s u r p. reaches-same t (set t (e * 4 + 3) v) (λ i f k. getD-set-other t (e * 4 + 3) (f * 4 + i) v 0 (λ z. omega arith)) p;
+      room = set-room t (e * 5 + 4) v n;
+      value = same-in t (e * 5 + 4) v n (omega arith);
+      values = λ f d. getD-set-other t (e * 5 + 4) (f * 5 + 4) v 0 (λ z. d (omega arith));
+      reaches = λ c s u r p. reaches-same t (set t (e * 5 + 4) v) (λ i k. getD-set-other t (e * 5 + 4) i v 0 (λ z. omega arith)) p;
     }
 
 pub ruleset values = (needs, emptied, put-told)

@@ -1,26 +1,24 @@
--- Laws of the trie: a text leads to one entry, and what it leads to stays.
-use Prim.Native.Nat.{ℕ, _+_, _*_, _≤_, _<_}
-use native.Mathlib.Omega.{arith}
+-- A law of the trie: a text leads to one entry.
+use Prim.Native.Nat.{ℕ}
 use mathlib.Core.Path.{_≡_, refl, sym, ap, _∙_}
-use mathlib.Core.List.{List, [], _∷_, _++_}
+use mathlib.Core.List.{List, [], _∷_}
 use lib.ListN.{getD}
-use Rattle.trie.specs.Trie.{firstOf, nextOf, byteOf, valueOf, Leads, none, here, next, Child, Reaches, stop, on}
-
-module _ {t : List ℕ} {b : ℕ} where
-  pub leads-unique : {e r r′ : ℕ} → Leads t b e r → Leads t b e r′ → r ≡ r′
-  leads-unique none none = refl
-  leads-unique none (here n q) = absurd (n refl)
-  leads-unique none (next n q l p) = absurd (n refl)
-  leads-unique (here n q) none = absurd (n refl)
-  leads-unique (here n q) (here m p) = refl
-  leads-unique (here n q) (next m p l o) = absurd (p q)
-  leads-unique (next n q l p) none = absurd (n refl)
-  leads-unique (next n q l p) (here m o) = absurd (q o)
-  leads-unique (next n q l p) (next m o k z) = leads-unique p z
+use Rattle.trie.specs.Trie.{Meets, none, here, next, Child, Reaches, stop, on}
 
 module _ {t : List ℕ} {c : ℕ} where
+  meets-unique : {b q m z z′ : ℕ} → Meets t c b q m z → Meets t c b q m z′ → z ≡ z′
+  meets-unique (none h q) (none k p) = refl
+  meets-unique (none h q) (here k l n p) = refl
+  meets-unique (none h q) (next k l n p o) = absurd (n q)
+  meets-unique (here h l n q) (none k p) = refl
+  meets-unique (here h l n q) (here k o u p) = refl
+  meets-unique (here h l n q) (next k o u p v) = absurd (p q)
+  meets-unique (next h l n q p) (none k o) = absurd (n o)
+  meets-unique (next h l n q p) (here k o u v) = absurd (q v)
+  meets-unique (next h l n q p) (next k o u v w) = meets-unique p w
+
   child-unique : {s b r r′ : ℕ} → Child t c s b r → Child t c s b r′ → r ≡ r′
-  child-unique p q = leads-unique (p .leads) (q .leads)
+  child-unique p q = sym (p .is) ∙ (ap (λ (z : ℕ). getD t z 0) (meets-unique (p .meets) (q .meets)) ∙ q .is)
 
   -- a text leads to one entry
   pub reaches-unique : {s r r′ : ℕ} {u : List ℕ} → Reaches t c s u r → Reaches t c s u r′ → r ≡ r′

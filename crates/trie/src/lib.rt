@@ -1,6 +1,7 @@
-// A trie of texts in a flat array. An entry has four words: its first child, its next sibling, the byte that leads to it, and a value of the caller's.
-// 0 is none: entry 0 is the root, the entry of the empty text. A `Place` is an entry and the count of the entries; its count is 0 if the way was given up.
-ghost use Prim.Native.Nat.{ℕ, _+_, _*_, _≤_, _<_};
+// A trie of texts in a flat array. An entry has five words: three slots, then the byte that leads to it, and a value of the caller's.
+// A slot holds an entry, or 0: the first slot the root of the tree of its children, the others those to its left and right in the tree that it is in.
+// Entry 0 is that of the empty text. A `Place` is an entry and the count of the entries; its count is 0 if the way was given up.
+ghost use Prim.Native.Nat.{ℕ, _+_, _*_, _%_, _≤_, _<_};
 ghost use mathlib.Core.Path.{_≡_};
 ghost use mathlib.Core.List.{[], _∷_};
 ghost use lib.ListN.{length, getD};
@@ -27,61 +28,66 @@ fn word(b: u8) -> u16
     b as u16
 }
 
-// The entry to which the byte b leads among the siblings from `first` on; 0 if there is none, 65,536 if the siblings do not fall.
-fn child(trie: &[u16; 262144], first: usize, b: u8) -> usize
-    requires { ⌜ first < 65536 ⌝ }
-    ensures { λ r. ⌜ Sought (now (trie .entry)) b first r ⌝ }
+// The slot that holds the child of the entry s by the byte b, or 0 if there is none; 327,680 if the search was given up.
+// The children of an entry are a digital tree: to the left or to the right of one by the next bit of the byte, from the lowest.
+fn slot_of(trie: &[u16; 327680], s: usize, c: usize, b: u8) -> usize
+    requires { ⌜ (s < c) × (c ≤ 65536) ⌝ }
+    ensures { λ r. ⌜ Sought (now (trie .entry)) c b s r ⌝ }
 {
     let sought = word(b);
-    let mut e = first;
-    while e != 0 {
-        if trie[e * 4 + 2] == sought {
-            return e;
+    let mut q = s * 5;
+    let mut bits = wide(sought);
+    let mut left: usize = 9;
+    while left != 0 {
+        let e = wide(trie[q]);
+        if e >= c {
+            return 327680;
         }
-        let n = wide(trie[e * 4 + 1]);
-        if n >= e {
-            return 65536;
+        if e == 0 {
+            return q;
         }
-        e = n;
+        if trie[e * 5 + 3] == sought {
+            return q;
+        }
+        q = e * 5 + 1 + bits % 2;
+        bits = bits / 2;
+        left -= 1;
     }
-    0
+    327680
 }
 
-// Appends the entry c as the first child of the entry s, by the byte b.
-fn grow(trie: &mut [u16; 262144], s: usize, c: usize, b: u8)
-    requires { ⌜ (s < c) × (c < 65536) × (length (now trie) ≡ 262144) ⌝ }
-    ensures { λ _. ⌜ Grown (now (trie .entry)) (now (trie .exit)) s c b ⌝ }
+// Appends the entry c, to which the byte b leads, and puts it into the slot w.
+fn grow(trie: &mut [u16; 327680], w: usize, c: usize, b: u8)
+    requires { ⌜ (w < c * 5) × (w % 5 < 3) × (c < 65536) × (length (now trie) ≡ 327680) ⌝ }
+    ensures { λ _. ⌜ Grown (now (trie .entry)) (now (trie .exit)) w c b ⌝ }
 {
-    let first = trie[s * 4];
-    trie[c * 4] = 0;
-    trie[c * 4 + 1] = first;
-    trie[c * 4 + 2] = word(b);
-    trie[c * 4 + 3] = 0;
-    trie[s * 4] = c as u16;
+    trie[c * 5] = 0;
+    trie[c * 5 + 1] = 0;
+    trie[c * 5 + 2] = 0;
+    trie[c * 5 + 3] = word(b);
+    trie[c * 5 + 4] = 0;
+    trie[w] = c as u16;
 }
 
-// From the entry s by one byte, to an entry that is appended if there is none.
-fn step(trie: &mut [u16; 262144], from: Place, b: u8) -> Place
-    requires { ⌜ (from .entry < from .count) × (from .count ≤ 65536) × (length (now trie) ≡ 262144) ⌝ }
+// From an entry by one byte, to an entry that is appended if there is none.
+fn step(trie: &mut [u16; 327680], from: Place, b: u8) -> Place
+    requires { ⌜ (from .entry < from .count) × (from .count ≤ 65536) × (length (now trie) ≡ 327680) ⌝ }
     ensures { λ r. ⌜ Walks (now (trie .entry)) (from .count) (from .entry) (b ∷ []) (now (trie .exit)) (r .count) (r .entry) ⌝ }
 {
     let s = from.entry;
     let c = from.count;
-    let first = wide(trie[s * 4]);
-    if first >= c {
+    let w = slot_of(trie, s, c, b);
+    if w >= 327680 {
         return Place { entry: 0, count: 0 };
     }
-    let m = child(trie, first, b);
-    if m >= c {
-        return Place { entry: 0, count: 0 };
-    }
+    let m = wide(trie[w]);
     if m != 0 {
         return Place { entry: m, count: c };
     }
     if c >= 65536 {
         return Place { entry: 0, count: 0 };
     }
-    grow(trie, s, c, b);
+    grow(trie, w, c, b);
     Place {
         entry: c,
         count: c + 1,
@@ -89,8 +95,8 @@ fn step(trie: &mut [u16; 262144], from: Place, b: u8) -> Place
 }
 
 // From an entry by the bytes that the cursor has ahead.
-fn walk_ahead(text: &[u8], from: strings::Cursor, trie: &mut [u16; 262144], begin: Place) -> Place
-    requires { ⌜ (Span (now text) (from .at) (from .end)) × (begin .entry < begin .count) × (begin .count ≤ 65536) × (length (now trie) ≡ 262144) ⌝ }
+fn walk_ahead(text: &[u8], from: strings::Cursor, trie: &mut [u16; 327680], begin: Place) -> Place
+    requires { ⌜ (Span (now text) (from .at) (from .end)) × (begin .entry < begin .count) × (begin .count ≤ 65536) × (length (now trie) ≡ 327680) ⌝ }
     ensures { λ r. ⌜ Walks (now (trie .entry)) (begin .count) (begin .entry) (ahead (now (text .entry)) from) (now (trie .exit)) (r .count) (r .entry) ⌝ }
 {
     let mut c = from;
@@ -109,8 +115,8 @@ fn walk_ahead(text: &[u8], from: strings::Cursor, trie: &mut [u16; 262144], begi
 }
 
 // From the root by the bytes that a string stands for. The way is given up where there is no room.
-pub fn walk(text: &[u8], at: usize, end: usize, trie: &mut [u16; 262144], count: usize) -> Place
-    requires { ⌜ (Span (now text) at end) × (0 < count) × (count ≤ 65536) × (length (now trie) ≡ 262144) ⌝ }
+pub fn walk(text: &[u8], at: usize, end: usize, trie: &mut [u16; 327680], count: usize) -> Place
+    requires { ⌜ (Span (now text) at end) × (0 < count) × (count ≤ 65536) × (length (now trie) ≡ 327680) ⌝ }
     ensures { λ r. ⌜ Walks (now (trie .entry)) count 0 (decodeAt (now (text .entry)) at end) (now (trie .exit)) (r .count) (r .entry) ⌝ }
 {
     let mut i = at;
@@ -143,26 +149,26 @@ pub fn walk(text: &[u8], at: usize, end: usize, trie: &mut [u16; 262144], count:
 }
 
 // Leaves the root alone, with no value.
-pub fn clear(trie: &mut [u16; 262144])
-    requires { ⌜ length (now trie) ≡ 262144 ⌝ }
+pub fn clear(trie: &mut [u16; 327680])
+    requires { ⌜ length (now trie) ≡ 327680 ⌝ }
     ensures { λ _. ⌜ Emptied (now (trie .exit)) ⌝ }
 {
     trie[0] = 0;
-    trie[3] = 0;
+    trie[4] = 0;
 }
 
 // The value of an entry.
-pub fn value(trie: &[u16; 262144], entry: usize) -> usize
+pub fn value(trie: &[u16; 327680], entry: usize) -> usize
     requires { ⌜ entry < 65536 ⌝ }
     ensures { λ r. ⌜ (r ≡ valueOf (now (trie .entry)) entry) × (r < 65536) ⌝ }
 {
-    wide(trie[entry * 4 + 3])
+    wide(trie[entry * 5 + 4])
 }
 
 // Gives an entry a value.
-pub fn put(trie: &mut [u16; 262144], entry: usize, value: usize)
-    requires { ⌜ (entry < 65536) × (value < 65536) × (length (now trie) ≡ 262144) ⌝ }
+pub fn put(trie: &mut [u16; 327680], entry: usize, value: usize)
+    requires { ⌜ (entry < 65536) × (value < 65536) × (length (now trie) ≡ 327680) ⌝ }
     ensures { λ _. ⌜ Puts (now (trie .entry)) (now (trie .exit)) entry value ⌝ }
 {
-    trie[entry * 4 + 3] = value as u16;
+    trie[entry * 5 + 4] = value as u16;
 }

@@ -10,7 +10,7 @@ use Rattle.everywhere.proofs.entered.Statement.{statement}
 use Rattle.everywhere.proofs.entered.Tie as tie
 
 abbrev Inv-loop : tie.InvT-loop
-Inv-loop text table n best trie₀ least₀ k₀ trie least k = (Pass Always 6 own6 text table n best k least) × (length trie ≡ 262144)
+Inv-loop text table n best trie₀ least₀ k₀ trie least k = (Pass Always 6 own6 text table n best k least) × (length trie ≡ 327680)
 
 abbrev μ-loop : tie.MeasureT-loop
 μ-loop text table n best trie₀ least₀ k₀ trie least k = n - k
@@ -27,7 +27,7 @@ entered-spec =
     (tie.spec
     Inv-loop
     μ-loop
-    (λ c. (pass-begin Always 6 own6 _ (c .before .before .pre), length-replicate {A = ℕ} 262144 0))
+    (λ c. (pass-begin Always 6 own6 _ (c .before .before .pre), length-replicate {A = ℕ} 327680 0))
     (λ c κs. (pass-part (c .before .before .loop .inv .0) (c .before .loop-test .taken), c .before .before .loop .inv .1))
     add-k
     (λ c. omega arith)

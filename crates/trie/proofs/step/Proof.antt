@@ -7,13 +7,11 @@ pub step-spec : {M : Type 1} → statement M
 step-spec =
     tie.close
     (tie.spec
+    (λ c κs. search steps)
     (λ c. search steps)
     (λ c. search steps)
     (λ c. search steps)
     (λ c κs. search steps)
-    (λ c. search steps)
-    (λ c κs. search steps)
-    (λ c. search steps)
     (λ c. search steps)
     (λ c. search steps)
     (λ c κs. search steps)
