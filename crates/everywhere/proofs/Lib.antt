@@ -4,3 +4,4 @@ mod Rule5
 pub mod Rule6
 mod Hashes
 mod Links
+mod Entries

@@ -12,13 +12,16 @@ use mir.Val.{Fits}
 use borrow.Author.Needs.{needs}
 use borrow.Author.Tests.{eqb-true, eqb-false, not-true, not-false}
 use Rattle.utf8.specs.Utf8.{same}
+use Rattle.utf8.specs.Laws.{clash}
 use Rattle.strings.specs.Spans.{Span, decodeAt}
 use Rattle.nodes.specs.Faults.{fault, least}
 use Rattle.everywhere.specs.Everywhere.{among}
 use Rattle.nodes.specs.Laws.{StringAt}
 use Rattle.everywhere.specs.Parts.{textAt}
 use Rattle.everywhere.specs.Laws.{other-text}
-use Rattle.everywhere.specs.Chains.{chainOf, kept, Link, Chained, end, link, Chains, ChainNode, InChain, ChainAt, ChainGives}
+use Rattle.everywhere.specs.Chains.{chainOf, kept, Link, Chained, end, link, Chains, ChainNode, InChain, Searched, ChainAt, ChainGives}
+use Rattle.everywhere.specs.declared.Search.{Search}
+use Rattle.everywhere.specs.declared.Search.the-variants.{Ended, Long}
 use Rattle.nodes.specs.Reads.{string-first, string-second, string-some, string-fits, string-span, string-low}
 
 -- what is left of a chain with the texts us, where the code has come to the node e
@@ -54,6 +57,18 @@ finished {x} {t} {ls} {k} {e} {us} r z = go (r .chain) (r .holds)
     go : {vs : List (List ℕ)} → Chained x t ls e vs → among us (textAt x t k) ≡ among vs (textAt x t k) → among us (textAt x t k) ≡ false
     go (end _) h = h
     go (link l c) h = absurd (omega (arith, l .back))
+
+-- what a search tells
+ended-inside : Bool → Search → Bool
+ended-inside d (Ended b) = b
+ended-inside d Long = d
+
+search-told : {x t ls : List ℕ} {head k : ℕ} {b : Bool} → InChain x t ls head k b → Searched x t ls head k (Ended b)
+unfolding ended-inside
+search-told {b = b} h = record { ended = λ r q. let z : b ≡ r = ap (ended-inside b) q in rw (← z) h }
+
+pub follow-long : {x t ls : List ℕ} {head k : ℕ} → Searched x t ls head k Long
+follow-long = record { ended = λ r q. clash cc }
 
 module _ {x t ls : List ℕ} {head k : ℕ} where
   pub follow-begin : ChainNode x t ls head k → Follows x t ls head k head
@@ -91,14 +106,14 @@ module _ {x t ls : List ℕ} {head k : ℕ} where
         unfolding textAt
         tested = rw (← w, ← y, ← w′, ← y′) s
 
-        pub follow-found : b ≡ true → InChain x t ls head k true
-        follow-found h = record { is = λ us z. let u = turn (c .left us z) n in sym (u .holds ∙ rw (← tested, h)) }
+        pub follow-found : b ≡ true → Searched x t ls head k (Ended true)
+        follow-found h = search-told (record { is = λ us z. let u = turn (c .left us z) n in sym (u .holds ∙ rw (← tested, h)) })
 
         pub follow-again : {m : ℕ} → b ≡ false → m ≡ getD ls (e / 3) 0 → Follows x t ls head k m
         follow-again h o = record { node = c .node; left = λ us z. let u = turn (c .left us z) n in record { texts = u .texts; chain = rw o (u .chain); holds = u .holds ∙ rw (← tested, h) } }
 
-    pub follow-done : e ≡ 0 → InChain x t ls head k false
-    follow-done z = record { is = λ us h. sym (finished (c .left us h) z) }
+    pub follow-done : e ≡ 0 → Searched x t ls head k (Ended false)
+    follow-done z = search-told (record { is = λ us h. sym (finished (c .left us h) z) })
 
 kept-if : (c : ℕ) (w u : List ℕ) (us : List (List ℕ)) (b : Bool) → eqb (chainOf u) c ≡ b → c ≡ chainOf w → among (kept c us) w ≡ among us w
     → among (cond b (u ∷ kept c us) (kept c us)) w ≡ (same u w || among us w)
@@ -154,15 +169,12 @@ module _ {x t ls hs : List ℕ} {k : ℕ} (d : ChainAt x t ls hs k) where
   pub name-node : {c h : ℕ} → h ≡ getD hs c 0 → c < 4096 → ChainNode x t ls h k
   name-node {c} {h} q l = record { texts = kept c (d .texts); chain = rw q (d .chains .chain c l); raw = d .raw; string = d .string }
 
-  module _ {p q c h : ℕ} {f : Bool} (y : p ≡ getD t k 0) (z : q ≡ getD t (k + 1) 0) (w : c ≡ chainOf (decodeAt x (p + 1) (q - 1))) (l : c < 4096) (o : h ≡ getD hs c 0) (g : InChain x t ls h k f) where
+  module _ {p q c : ℕ} (y : p ≡ getD t k 0) (z : q ≡ getD t (k + 1) 0) (w : c ≡ chainOf (decodeAt x (p + 1) (q - 1))) (l : c < 4096) where
     goes : c ≡ chainOf (textAt x t k)
     unfolding textAt
     goes = rw (← y, ← z) w
 
-    found : (us : List (List ℕ)) → Chains x t ls hs k us → among us (textAt x t k) ≡ f
-    found us s = sym (g .is (kept c us) (rw o (s .chain c l)) ∙ kept-among c (textAt x t k) goes us)
-
-    gives : {b r : ℕ} → ((us : List (List ℕ)) → Chains x t ls hs k us → r ≡ least b (map (fault 6) (cond (among us (textAt x t k)) (getD t k 0 ∷ []) [])))
+    gives : {b r : ℕ} → ((r ≡ 0 → ⊥) → (us : List (List ℕ)) → Chains x t ls hs k us → r ≡ least b (map (fault 6) (cond (among us (textAt x t k)) (getD t k 0 ∷ []) [])))
         → ChainGives x t ls hs (set ls (k / 3) (getD hs c 0)) (set hs c k) k b r
     gives i =
         record {
@@ -172,13 +184,21 @@ module _ {x t ls hs : List ℕ} {k : ℕ} (d : ChainAt x t ls hs k) where
           heads = length-set hs c k ∙ d .heads;
         }
 
-    pub chain-none : (b : ℕ) → not f ≡ true → ChainGives x t ls hs (set ls (k / 3) (getD hs c 0)) (set hs c k) k b b
-    unfolding least
-    chain-none b e = gives (λ us s. rw (found us s, not-true f e))
+    -- the chain is too long
+    pub chain-long : (b : ℕ) → ChainGives x t ls hs (set ls (k / 3) (getD hs c 0)) (set hs c k) k b 0
+    chain-long b = gives (λ n. absurd (n refl))
 
-    pub chain-found : {b u v : ℕ} → not f ≡ false → u ≡ fault 6 p → v ≡ min b u → ChainGives x t ls hs (set ls (k / 3) (getD hs c 0)) (set hs c k) k b v
-    unfolding least
-    chain-found {b} {u} {v} e i j = gives (λ us s. rw (found us s, not-false f e) (j ∙ (ap (min b) i ∙ ap (λ (a : ℕ). min b (fault 6 a)) y)))
+    module _ {h : ℕ} {f : Bool} (o : h ≡ getD hs c 0) (e : Search) (g : Searched x t ls h k e) (v : e ≡ Ended f) where
+      found : (us : List (List ℕ)) → Chains x t ls hs k us → among us (textAt x t k) ≡ f
+      found us s = sym (g .ended f v .is (kept c us) (rw o (s .chain c l)) ∙ kept-among c (textAt x t k) goes us)
+
+      pub chain-none : (b : ℕ) → not f ≡ true → ChainGives x t ls hs (set ls (k / 3) (getD hs c 0)) (set hs c k) k b b
+      unfolding least
+      chain-none b n = gives (λ m us s. rw (found us s, not-true f n))
+
+      pub chain-found : {b u a : ℕ} → not f ≡ false → u ≡ fault 6 p → a ≡ min b u → ChainGives x t ls hs (set ls (k / 3) (getD hs c 0)) (set hs c k) k b a
+      unfolding least
+      chain-found {b} {u} {a} n i j = gives (λ m us s. rw (found us s, not-false f n) (j ∙ (ap (min b) i ∙ ap (λ (a : ℕ). min b (fault 6 a)) y)))
 
 pub ruleset follows = (
   needs,
@@ -197,6 +217,7 @@ pub ruleset follows = (
   follow-less,
   follow-found,
   follow-done,
+  follow-long,
 )
 
-pub ruleset links = (needs, string-first, string-second, string-some, string-fits, string-span, string-low, name-node, chain-none, chain-found)
+pub ruleset links = (needs, string-first, string-second, string-some, string-fits, string-span, string-low, name-node, chain-long, chain-none, chain-found)

@@ -16,8 +16,8 @@ use Rattle.json.specs.Laws.{words}
 use Rattle.nodes.specs.Faults.{fault, least}
 use Rattle.everywhere.specs.Everywhere.{strings, unpairedIn, rule5, repeated, rule6, rule6In, rule6Of, stringsIn, stringsOf}
 use Rattle.nodes.specs.Says.{Root, Gives}
-use Rattle.nodes.specs.Laws.{least-++, fieldsOf}
-use Rattle.everywhere.specs.Parts.{Part, value, name, Stands, of-value, of-name, own5, own6, AnyPart, PartGives}
+use Rattle.nodes.specs.Laws.{least-++, least-le, fieldsOf}
+use Rattle.everywhere.specs.Parts.{Part, value, name, Stands, of-value, of-name, own5, own6, AnyPart, PartGives, PartTells}
 
 -- the parts of a value, of elements and of members, in the text's order
 unfoldable mutual
@@ -161,32 +161,44 @@ pub rule5-clear : {x t : List ℕ} (b : ℕ) {r : Bool} → r ≡ hasByte 92 x �
 unfolding least
 rule5-clear b {r} q n = record { is = λ v s. rw (rule5-parts v, plain-row (sym q ∙ not-true r n) (row s)) }
 
--- what a pass knows where it has come to the node k: the words from k up to n are those of the parts that are left, whose faults with b have the least `all`
-record Left (rule : ℕ) (own : Part → List ℕ) (x t : List ℕ) (n k b all : ℕ) : Type 0 where
+-- what is claimed of the least so far: something always, or only unless it is 0
+abbrev pub Always : ℕ → Type 0
+Always b = Unit
+
+abbrev pub NotZero : ℕ → Type 0
+NotZero b = b ≡ 0 → ⊥
+
+-- a least that is not 0 comes from one that is not 0
+pub not-zero-before : {b r : ℕ} (fs : List ℕ) → r ≡ least b fs → NotZero r → NotZero b
+not-zero-before {b} {r} fs q n z = n (omega (arith, least-le b fs))
+
+-- what a pass knows where it has come to the node k: the words from k up to n are those of the parts that are left,
+-- whose faults with b have the least `all`, if P holds of b
+record Left (P : ℕ → Type 0) (rule : ℕ) (own : Part → List ℕ) (x t : List ℕ) (n k b all : ℕ) : Type 0 where
   left : List Part
   stand : Row x t k left
   ends : k + 3 * length left ≡ n
-  holds : least b (map (fault rule) (flatMap own left)) ≡ all
+  holds : P b → least b (map (fault rule) (flatMap own left)) ≡ all
 
 -- the same of every value that stands at the node 0, where the pass began with b₀
-pub record Pass (rule : ℕ) (own : Part → List ℕ) (x t : List ℕ) (n b₀ k b : ℕ) : Type 0 where
+pub record Pass (P : ℕ → Type 0) (rule : ℕ) (own : Part → List ℕ) (x t : List ℕ) (n b₀ k b : ℕ) : Type 0 where
   pub root : Root x t n
-  left : (v : Json) → Sub x t 0 v → Left rule own x t n k b (least b₀ (map (fault rule) (flatMap own (parts v))))
+  left : (v : Json) → Sub x t 0 v → Left P rule own x t n k b (least b₀ (map (fault rule) (flatMap own (parts v))))
 
 -- in a turn: the part at k, and the others
-record Turn (rule : ℕ) (own : Part → List ℕ) (x t : List ℕ) (n k b all : ℕ) : Type 0 where
+record Turn (P : ℕ → Type 0) (rule : ℕ) (own : Part → List ℕ) (x t : List ℕ) (n k b all : ℕ) : Type 0 where
   part : Part
   others : List Part
   stands : Stands x t k part
   then : Row x t (k + 3) others
   ends : (k + 3) + 3 * length others ≡ n
-  holds : least (least b (map (fault rule) (own part))) (map (fault rule) (flatMap own others)) ≡ all
+  holds : P b → least (least b (map (fault rule) (own part))) (map (fault rule) (flatMap own others)) ≡ all
 
-turn : {rule : ℕ} {own : Part → List ℕ} {x t : List ℕ} {n k b all : ℕ} → Left rule own x t n k b all → k < n → Turn rule own x t n k b all
+turn : {P : ℕ → Type 0} {rule : ℕ} {own : Part → List ℕ} {x t : List ℕ} {n k b all : ℕ} → Left P rule own x t n k b all → k < n → Turn P rule own x t n k b all
 unfolding flatMap
-turn {rule} {own} {x} {t} {n} {k} {b} {all} l h = go (l .stand) (l .ends) (l .holds)
+turn {P} {rule} {own} {x} {t} {n} {k} {b} {all} l h = go (l .stand) (l .ends) (l .holds)
   where
-    go : {ds : List Part} → Row x t k ds → k + 3 * length ds ≡ n → least b (map (fault rule) (flatMap own ds)) ≡ all → Turn rule own x t n k b all
+    go : {ds : List Part} → Row x t k ds → k + 3 * length ds ≡ n → (P b → least b (map (fault rule) (flatMap own ds)) ≡ all) → Turn P rule own x t n k b all
     go none e p = absurd (omega arith)
     go (some {d = d} {ds = ds} s r) e p =
         record {
@@ -195,34 +207,46 @@ turn {rule} {own} {x} {t} {n} {k} {b} {all} l h = go (l .stand) (l .ends) (l .ho
           stands = s;
           then = r;
           ends = omega arith;
-          holds =
+          holds = λ z.
               sym (least-++ b (map (fault rule) (own d)) (map (fault rule) (flatMap own ds)))
-              ∙ (ap (least b) (sym (map-append (fault rule) (own d) (flatMap own ds))) ∙ p);
+              ∙ (ap (least b) (sym (map-append (fault rule) (own d) (flatMap own ds))) ∙ p z);
         }
 
-finished : {rule : ℕ} {own : Part → List ℕ} {x t : List ℕ} {n k b all : ℕ} → Left rule own x t n k b all → n ≤ k → b ≡ all
+finished : {P : ℕ → Type 0} {rule : ℕ} {own : Part → List ℕ} {x t : List ℕ} {n k b all : ℕ} → Left P rule own x t n k b all → n ≤ k → P b → b ≡ all
 unfolding flatMap least
-finished {rule} {own} {x} {t} {n} {k} {b} {all} l h = go (l .left) (l .ends) (l .holds)
+finished {rule = rule} {own} {x} {t} {n} {k} {b} {all} l h z = go (l .left) (l .ends) (l .holds z)
   where
     go : (ds : List Part) → k + 3 * length ds ≡ n → least b (map (fault rule) (flatMap own ds)) ≡ all → b ≡ all
     go [] e p = p
     go (d ∷ ds) e p = absurd (omega arith)
 
-pub pass-begin : (rule : ℕ) (own : Part → List ℕ) {x t : List ℕ} {n : ℕ} (b : ℕ) → Root x t n → Pass rule own x t n b 0 b
-pass-begin rule own b d = record { root = d; left = λ v s. record { left = parts v; stand = row s; ends = omega (arith, parts-size v, words s .next, words (d .stands) .next, d .ends); holds = refl } }
+pub pass-begin : (P : ℕ → Type 0) (rule : ℕ) (own : Part → List ℕ) {x t : List ℕ} {n : ℕ} (b : ℕ) → Root x t n → Pass P rule own x t n b 0 b
+pass-begin P rule own b d =
+    record {
+      root = d;
+      left = λ v s. record { left = parts v; stand = row s; ends = omega (arith, parts-size v, words s .next, words (d .stands) .next, d .ends); holds = λ z. refl };
+    }
 
-module _ {rule : ℕ} {own : Part → List ℕ} {x t : List ℕ} {n b₀ k b : ℕ} (c : Pass rule own x t n b₀ k b) where
+module _ {P : ℕ → Type 0} {rule : ℕ} {own : Part → List ℕ} {x t : List ℕ} {n b₀ k b : ℕ} (c : Pass P rule own x t n b₀ k b) where
   pub pass-part : k < n → AnyPart x t k
   pass-part l = let u = turn (c .left (c .root .value) (c .root .stands)) l in record { part = u .part; stands = u .stands; short = c .root .short }
 
-  pub pass-again : {r : ℕ} → k < n → PartGives rule own x t k b r → Pass rule own x t n b₀ (k + 3) r
-  pass-again l g =
+  again : {r : ℕ} → k < n → ((d : Part) → Stands x t k d → P r → P b × (r ≡ least b (map (fault rule) (own d)))) → Pass P rule own x t n b₀ (k + 3) r
+  again l g =
       record {
         root = c .root;
         left = λ v s.
             let u = turn (c .left v s) l in
-            record { left = u .others; stand = u .then; ends = u .ends; holds = rw (g .is (u .part) (u .stands)) (u .holds) };
+            record { left = u .others; stand = u .then; ends = u .ends; holds = λ z. let o = g (u .part) (u .stands) z in rw (o .1) (u .holds (o .0)) };
       }
 
-  pub pass-done : n ≤ k → (v : Json) → Sub x t 0 v → b ≡ least b₀ (map (fault rule) (flatMap own (parts v)))
-  pass-done h v s = finished (c .left v s) h
+  pub pass-done : n ≤ k → P b → (v : Json) → Sub x t 0 v → b ≡ least b₀ (map (fault rule) (flatMap own (parts v)))
+  pass-done h z v s = finished (c .left v s) h z
+
+module _ {rule : ℕ} {own : Part → List ℕ} {x t : List ℕ} {n b₀ k b r : ℕ} where
+  pub pass-again : Pass Always rule own x t n b₀ k b → k < n → PartGives rule own x t k b r → Pass Always rule own x t n b₀ (k + 3) r
+  pass-again c l g = again c l (λ d s z. (tt, g .is d s))
+
+  -- a turn that may give 0
+  pub pass-onward : Pass NotZero rule own x t n b₀ k b → k < n → PartTells rule own x t k b r → Pass NotZero rule own x t n b₀ (k + 3) r
+  pass-onward c l g = again c l (λ d s z. let y = g .told z .is d s in (not-zero-before (map (fault rule) (own d)) y z, y))

@@ -20,9 +20,13 @@ use Rattle.nodes.specs.Access.{isObjectValue}
 use Rattle.nodes.specs.Faults.{fault, least}
 use Rattle.everywhere.specs.Everywhere.{among, repeated}
 use Rattle.nodes.specs.Laws.{quoted-at, kinds, fieldsOf, object-begin, no-fields, least-++, fresh-zero, fresh-length}
-use Rattle.everywhere.specs.Parts.{Part, value, Stands, of-value, of-name, own6, AnyPart, PartGives, earlier, textAt, NameNode, Repeats, RepeatGives}
+use Rattle.everywhere.specs.Parts.{Part, value, Stands, of-value, of-name, own6, AnyPart, PartGives, PartTells, earlier, textAt, NameNode, Repeats, RepeatGives}
 use Rattle.everywhere.specs.Chains.{Chains, ChainAt, ChainGives, LongObject}
+use Rattle.everywhere.specs.Entries.{Entries, EntryAt, EntryGives}
+use Rattle.trie.specs.Trie.{Emptied}
 use Rattle.everywhere.proofs.Links.{chains-begin}
+use Rattle.everywhere.proofs.Entries.{entries-begin}
+use Rattle.everywhere.proofs.Passes.{Always, NotZero, not-zero-before}
 use Rattle.nodes.specs.Reads.{string-first, string-second, string-some, string-fits, string-span, string-low, Walk, walk-of, walk-on, walk-first, walk-second, walk-room, walk-onward, walk-some, walk-fits, walk-span, walk-less}
 use Rattle.everywhere.proofs.Rule5.{any-first, any-third, any-onward, any-inside}
 
@@ -111,21 +115,22 @@ module _ {x t : List ℕ} {first k : ℕ} where
   unfolding least
   repeat-found {r} {b} {p} {u} {w} g e q y z = record { is = λ ms f o. rw (sym (g .is ms f o) ∙ not-false r e) (z ∙ (ap (min b) y ∙ ap (λ (m : ℕ). min b (fault 6 m)) q)) }
 
--- The names of an object: those of the members `before` come before k, Q holds of their texts, and the faults of `fields` are those of the members that are left
-record Earlier (x t : List ℕ) (first k b₀ b : ℕ) (Q : List (List ℕ) → Type 0) (fields left : Members) : Type 0 where
+-- The names of an object: those of the members `before` come before k, Q holds of their texts, and the faults of `fields` are those of the members that are left,
+-- if P holds of the least so far
+record Earlier (P : ℕ → Type 0) (x t : List ℕ) (first k b₀ b : ℕ) (Q : List (List ℕ) → Type 0) (fields left : Members) : Type 0 where
   before : Members
   stand : Fields x t first before
   ends : first + widths before ≡ k
   also : Q (earlier [] before)
-  holds : least b (map (fault 6) (repeated (earlier [] before) left)) ≡ least b₀ (map (fault 6) (repeated [] fields))
+  holds : P b → least b (map (fault 6) (repeated (earlier [] before) left)) ≡ least b₀ (map (fault 6) (repeated [] fields))
 
 -- what the loop over the names of the object at i knows where it has come to k, and the least so far is b
-pub record Sweeps (x t : List ℕ) (i first n b₀ k b : ℕ) (Q : List (List ℕ) → Type 0) : Type 0 where
+pub record Sweeps (P : ℕ → Type 0) (x t : List ℕ) (i first n b₀ k b : ℕ) (Q : List (List ℕ) → Type 0) : Type 0 where
   pub some : AnyPart x t i
   pub brace : getD x (getD t i 0) 0 ≡ 123
   pub ends : n ≡ getD t (i + 2) 0
   pub walk : Walk x t n k
-  left : (v : Json) → Sub x t i v → MembersLeft x t k n (Earlier x t first k b₀ b Q (fieldsOf v))
+  left : (v : Json) → Sub x t i v → MembersLeft x t k n (Earlier P x t first k b₀ b Q (fieldsOf v))
 
 -- what starts with a brace is an object, and no name
 module _ {x t : List ℕ} {i : ℕ} where
@@ -153,49 +158,58 @@ pub repeated-none : {x t : List ℕ} {i p : ℕ} (b : ℕ) → p ≡ getD t i 0 
 unfolding least
 repeated-none b e n = record { is = λ d s. rw (other-part s (λ h. n (rw e h))) }
 
+pub repeated-told : {x t : List ℕ} {i p : ℕ} (b : ℕ) → p ≡ getD t i 0 → (getD x p 0 ≡ 123 → ⊥) → PartTells 6 own6 x t i b b
+repeated-told b e n = record { told = λ z. repeated-none b e n }
+
 -- r is the least of b and of the fault of the name at the node k, if it is among the texts us
 abbrev Least : List ℕ → List ℕ → ℕ → ℕ → ℕ → List (List ℕ) → Type 0
 Least x t k b r us = r ≡ least b (map (fault 6) (cond (among us (textAt x t k)) (getD t k 0 ∷ []) []))
 
 -- the faults from one member on
 repeated-step :
-    {x t : List ℕ} {first k n b₀ b r : ℕ} {Q R : List (List ℕ) → Type 0} {fields : Members} (u : MemberPast x t k n (Earlier x t first k b₀ b Q fields))
-    → Least x t k b r (earlier [] (u .holds .before)) → R (textAt x t k ∷ earlier [] (u .holds .before))
-    → Earlier x t first (getD t (k + 3 + 2) 0) b₀ r R fields (u .others)
+    {P : ℕ → Type 0} {x t : List ℕ} {first k n b₀ b r : ℕ} {Q R : List (List ℕ) → Type 0} {fields : Members} (u : MemberPast x t k n (Earlier P x t first k b₀ b Q fields))
+    → (P r → P b × Least x t k b r (earlier [] (u .holds .before))) → R (textAt x t k ∷ earlier [] (u .holds .before))
+    → Earlier P x t first (getD t (k + 3 + 2) 0) b₀ r R fields (u .others)
 unfolding repeated textAt
-repeated-step {x} {t} {first} {k} {n} {b₀} {b} {r} {Q} {R} {fields} u g q =
+repeated-step {P} {x} {t} {first} {k} {n} {b₀} {b} {r} {Q} {R} {fields} u g q =
     let o = u .holds in
     let a = quoted-at (u .quoted) in
     let p : u .key .place ≡ getD t k 0 = sym (u .quoted .words .start) in
-    let y : r ≡ least b (map (fault 6) (cond (among (earlier [] (o .before)) (decode (u .key .raw))) (u .key .place ∷ []) [])) = rw (a .text, p) g in
     record {
       before = with (o .before) (u .key) (u .value);
       stand = fields-with (o .stand) (o .ends) (u .quoted) (u .stands);
       ends = omega (arith, widths-with (o .before) (u .key) (u .value), o .ends, u .word .next);
       also = rw (earlier-with [] (o .before) (u .key) (u .value), a .text) q;
-      holds = rw (earlier-with [] (o .before) (u .key) (u .value), y, ← least-++, ← map-append) (o .holds);
+      holds = λ z.
+          let y : r ≡ least b (map (fault 6) (cond (among (earlier [] (o .before)) (decode (u .key .raw))) (u .key .place ∷ []) [])) = rw (a .text, p) (g z .1) in
+          rw (earlier-with [] (o .before) (u .key) (u .value), y, ← least-++, ← map-append) (o .holds (g z .0));
     }
+
+-- a least that is not 0 comes from one that is not 0
+onward : (x t : List ℕ) (k : ℕ) {b r : ℕ} (us : List (List ℕ)) → (NotZero r → Least x t k b r us) → NotZero r → NotZero b × Least x t k b r us
+onward x t k us g z = let y = g z in (not-zero-before (map (fault 6) (cond (among us (textAt x t k)) (getD t k 0 ∷ []) [])) y z, y)
 
 -- nothing is asked of the texts of the names
 abbrev pub Any : List (List ℕ) → Type 0
 Any us = Unit
 
 module _ {x t : List ℕ} {i : ℕ} where
-  begin : {p n : ℕ} {Q : List (List ℕ) → Type 0} (b : ℕ) → AnyPart x t i → p ≡ getD t i 0 → getD x p 0 ≡ 123 → n ≡ getD t (i + 2) 0 → Q [] → Sweeps x t i (i + 3) n b (i + 3) b Q
+  begin : {p n : ℕ} {Q : List (List ℕ) → Type 0} (P : ℕ → Type 0) (b : ℕ) → AnyPart x t i → p ≡ getD t i 0 → getD x p 0 ≡ 123 → n ≡ getD t (i + 2) 0 → Q []
+      → Sweeps P x t i (i + 3) n b (i + 3) b Q
   unfolding widths earlier
-  begin {p} {n} {Q} b a q h o z = let d = of-object (a .stands) brace in record { some = a; brace = brace; ends = o; walk = walk-of (begun (d .value) (d .stands)); left = begun }
+  begin {p} {n} {Q} P b a q h o z = let d = of-object (a .stands) brace in record { some = a; brace = brace; ends = o; walk = walk-of (begun (d .value) (d .stands)); left = begun }
     where
       brace : getD x (getD t i 0) 0 ≡ 123
       brace = rw (← q) h
 
-      begun : (v : Json) → Sub x t i v → MembersLeft x t (i + 3) n (Earlier x t (i + 3) (i + 3) b b Q (fieldsOf v))
-      begun v s = rw o (object-begin s (is-object brace s) (record { before = tree.empty; stand = last; ends = add-zero (i + 3); also = z; holds = refl }))
+      begun : (v : Json) → Sub x t i v → MembersLeft x t (i + 3) n (Earlier P x t (i + 3) (i + 3) b b Q (fieldsOf v))
+      begun v s = rw o (object-begin s (is-object brace s) (record { before = tree.empty; stand = last; ends = add-zero (i + 3); also = z; holds = λ y. refl }))
 
-  pub sweep-begin : {p n : ℕ} (b : ℕ) → AnyPart x t i → p ≡ getD t i 0 → getD x p 0 ≡ 123 → n ≡ getD t (i + 2) 0 → Sweeps x t i (i + 3) n b (i + 3) b Any
-  sweep-begin b a q h o = begin b a q h o tt
+  pub sweep-begin : {p n : ℕ} (P : ℕ → Type 0) (b : ℕ) → AnyPart x t i → p ≡ getD t i 0 → getD x p 0 ≡ 123 → n ≡ getD t (i + 2) 0 → Sweeps P x t i (i + 3) n b (i + 3) b Any
+  sweep-begin P b a q h o = begin P b a q h o tt
 
-  module _ {first n b₀ k b : ℕ} {Q : List (List ℕ) → Type 0} (c : Sweeps x t i first n b₀ k b Q) where
-    turn : k < n → MemberPast x t k n (Earlier x t first k b₀ b Q (fieldsOf (of-object (c .some .stands) (c .brace) .value)))
+  module _ {P : ℕ → Type 0} {first n b₀ k b : ℕ} {Q : List (List ℕ) → Type 0} (c : Sweeps P x t i first n b₀ k b Q) where
+    turn : k < n → MemberPast x t k n (Earlier P x t first k b₀ b Q (fieldsOf (of-object (c .some .stands) (c .brace) .value)))
     turn l = let d = of-object (c .some .stands) (c .brace) in member-past (c .left (d .value) (d .stands)) l
 
     pub sweep-name : k < n → NameNode x t first k
@@ -208,29 +222,40 @@ module _ {x t : List ℕ} {i : ℕ} where
     pub sweep-seen : {seen m : ℕ} → k < n → seen ≤ k → m ≡ getD t (k + 3 + 2) 0 → seen + 1 ≤ m
     sweep-seen l h q = omega (arith, walk-less (c .walk) l q)
 
-    pub sweep-done : n ≤ k → PartGives 6 own6 x t i b₀ b
+    done : n ≤ k → P b → PartGives 6 own6 x t i b₀ b
     unfolding own6 repeated least
-    sweep-done h = record { is = λ d s. done s }
+    done h z = record { is = λ d s. it s }
       where
-        done : {d : Part} → Stands x t i d → b ≡ least b₀ (map (fault 6) (own6 d))
-        done (of-value {v = v} s) = members-ended (c .left v s) h .holds
-        done (of-name q) = absurd (no-name (c .brace) q)
+        it : {d : Part} → Stands x t i d → b ≡ least b₀ (map (fault 6) (own6 d))
+        it (of-value {v = v} s) = members-ended (c .left v s) h .holds z
+        it (of-name q) = absurd (no-name (c .brace) q)
+
+  pub sweep-done : {first n b₀ k b : ℕ} {Q : List (List ℕ) → Type 0} → Sweeps Always x t i first n b₀ k b Q → n ≤ k → PartGives 6 own6 x t i b₀ b
+  sweep-done c h = done c h tt
+
+  pub sweep-told : {first n b₀ k b : ℕ} {Q : List (List ℕ) → Type 0} → Sweeps NotZero x t i first n b₀ k b Q → n ≤ k → PartTells 6 own6 x t i b₀ b
+  sweep-told c h = record { told = λ z. done c h z }
 
   -- past one name
-  again : {first n b₀ k b r m : ℕ} {Q R : List (List ℕ) → Type 0} → Sweeps x t i first n b₀ k b Q → k < n → m ≡ getD t (k + 3 + 2) 0
-      → ((ms : Members) → Fields x t first ms → first + widths ms ≡ k → Q (earlier [] ms) → Least x t k b r (earlier [] ms) × R (textAt x t k ∷ earlier [] ms))
-      → Sweeps x t i first n b₀ m r R
-  again {first} {n} {b₀} {k} {b} {r} {m} {Q} {R} c l q g = record { some = c .some; brace = c .brace; ends = c .ends; walk = walk-on (c .walk) l q; left = λ v s. onto (member-past (c .left v s) l) }
+  again : {P : ℕ → Type 0} {first n b₀ k b r m : ℕ} {Q R : List (List ℕ) → Type 0} → Sweeps P x t i first n b₀ k b Q → k < n → m ≡ getD t (k + 3 + 2) 0
+      → ((ms : Members) → Fields x t first ms → first + widths ms ≡ k → Q (earlier [] ms) → (P r → P b × Least x t k b r (earlier [] ms)) × R (textAt x t k ∷ earlier [] ms))
+      → Sweeps P x t i first n b₀ m r R
+  again {P} {first} {n} {b₀} {k} {b} {r} {m} {Q} {R} c l q g =
+      record { some = c .some; brace = c .brace; ends = c .ends; walk = walk-on (c .walk) l q; left = λ v s. onto (member-past (c .left v s) l) }
     where
-      onto : {fields : Members} (u : MemberPast x t k n (Earlier x t first k b₀ b Q fields)) → MembersLeft x t m n (Earlier x t first m b₀ r R fields)
+      onto : {fields : Members} (u : MemberPast x t k n (Earlier P x t first k b₀ b Q fields)) → MembersLeft x t m n (Earlier P x t first m b₀ r R fields)
       onto u = let o = u .holds in let e = g (o .before) (o .stand) (o .ends) (o .also) in rw q (member-over u (repeated-step u (e .0) (e .1)))
 
-  pub sweep-again : {first n b₀ k b r m : ℕ} → Sweeps x t i first n b₀ k b Any → k < n → RepeatGives x t first k b r → m ≡ getD t (k + 3 + 2) 0 → Sweeps x t i first n b₀ m r Any
-  sweep-again c l g q = again c l q (λ ms f e z. (g .is ms f e, tt))
+  module _ {first n b₀ k b r m : ℕ} where
+    pub sweep-again : Sweeps Always x t i first n b₀ k b Any → k < n → RepeatGives x t first k b r → m ≡ getD t (k + 3 + 2) 0 → Sweeps Always x t i first n b₀ m r Any
+    sweep-again c l g q = again c l q (λ ms f e z. (λ y. (tt, g .is ms f e), tt))
+
+    pub sweep-onward : Sweeps NotZero x t i first n b₀ k b Any → k < n → RepeatGives x t first k b r → m ≡ getD t (k + 3 + 2) 0 → Sweeps NotZero x t i first n b₀ m r Any
+    sweep-onward c l g q = again c l q (λ ms f e z. (onward x t k (earlier [] ms) (λ y. g .is ms f e), tt))
 
 -- the same loop by chains
 pub record Threads (x t ls hs : List ℕ) (i first n b₀ k b : ℕ) : Type 0 where
-  pub sweeps : Sweeps x t i first n b₀ k b (Chains x t ls hs k)
+  pub sweeps : Sweeps NotZero x t i first n b₀ k b (Chains x t ls hs k)
   few : n ≤ 98352
   pub links : length ls ≡ 32784
   heads : length hs ≡ 4096
@@ -238,7 +263,12 @@ pub record Threads (x t ls hs : List ℕ) (i first n b₀ k b : ℕ) : Type 0 wh
 module _ {x t : List ℕ} {i : ℕ} where
   pub thread-begin : {n : ℕ} (b : ℕ) {ls : List ℕ} (hs : List ℕ) → LongObject x t ls i → n ≡ getD t (i + 2) 0 → hs ≡ replicate 4096 0 → Threads x t ls hs i (i + 3) n b (i + 3) b
   thread-begin b {ls} hs d o z =
-      record { sweeps = begin b (d .some) refl (d .brace) o (chains-begin x t ls hs (i + 3) (fresh-zero 4096 z) (omega arith)); few = rw o (d .ends); links = d .links; heads = fresh-length 4096 z }
+      record {
+        sweeps = begin NotZero b (d .some) refl (d .brace) o (chains-begin x t ls hs (i + 3) (fresh-zero 4096 z) (omega arith));
+        few = rw o (d .ends);
+        links = d .links;
+        heads = fresh-length 4096 z;
+      }
 
   module _ {first n b₀ k b : ℕ} {ls hs : List ℕ} (c : Threads x t ls hs i first n b₀ k b) where
     pub thread-name : k < n → ChainAt x t ls hs k
@@ -258,7 +288,57 @@ module _ {x t : List ℕ} {i : ℕ} where
     pub thread-again : {r m : ℕ} {ls′ hs′ : List ℕ} → k < n → ChainGives x t ls hs ls′ hs′ k b r → m ≡ getD t (k + 3 + 2) 0 → Threads x t ls′ hs′ i first n b₀ m r
     thread-again {m = m} l g q =
         let h : k + 3 ≤ m = omega (arith, turn (c .sweeps) l .word .next) in
-        record { sweeps = again (c .sweeps) l q (λ ms f e z. (g .is _ z, g .more _ m z h)); few = c .few; links = g .links; heads = g .heads }
+        record {
+          sweeps = again (c .sweeps) l q (λ ms f e z. (onward x t k (earlier [] ms) (λ y. g .is y _ z), g .more _ m z h));
+          few = c .few;
+          links = g .links;
+          heads = g .heads;
+        }
+
+-- the same loop by a trie, which has c entries
+pub record Enters (x t q : List ℕ) (c i first n b₀ k b : ℕ) : Type 0 where
+  pub sweeps : Sweeps Always x t i first n b₀ k b (Entries x t q c)
+  pub room : length q ≡ 327680
+  later : 3 ≤ k
+  some : 0 < c
+  few : c ≤ 65536
+
+module _ {x t : List ℕ} {i : ℕ} where
+  pub enter-begin : {p n : ℕ} {q : List ℕ} (b : ℕ) → AnyPart x t i → p ≡ getD t i 0 → getD x p 0 ≡ 123 → n ≡ getD t (i + 2) 0 → Emptied q → Enters x t q 1 i (i + 3) n b (i + 3) b
+  enter-begin {q = q} b a y h o z =
+      record { sweeps = begin Always b a y h o (entries-begin x t q (z .value)); room = z .room; later = omega arith; some = omega arith; few = omega arith }
+
+  module _ {first n b₀ k b c : ℕ} {q : List ℕ} (s : Enters x t q c i first n b₀ k b) where
+    pub enter-name : k < n → EntryAt x t q c k
+    enter-name l =
+        let u = turn (s .sweeps) l in
+        record {
+          texts = earlier [] (u .holds .before);
+          entries = u .holds .also;
+          name = record { raw = u .key .raw; string = quoted-at (u .quoted) };
+          short = s .sweeps .some .short;
+          later = s .later;
+          room = s .room;
+          some = s .some;
+          few = s .few;
+        }
+
+    pub enter-again : {r m c′ : ℕ} {q′ : List ℕ} → k < n → EntryGives x t q c q′ c′ k b r → (c′ ≡ 0 → ⊥) → m ≡ getD t (k + 3 + 2) 0 → Enters x t q′ c′ i first n b₀ m r
+    enter-again {m = m} l g z y =
+        let o = g .told z in
+        record {
+          sweeps = again (s .sweeps) l y (λ ms f e w. (λ v. (tt, o .is _ w), o .more _ w));
+          room = g .room;
+          later = omega (arith, turn (s .sweeps) l .word .next);
+          some = omega arith;
+          few = o .few;
+        }
+
+    pub enter-done : n ≤ k → PartGives 6 own6 x t i b₀ b
+    enter-done h = sweep-done (s .sweeps) h
+
+    pub enter-room : length q ≡ 327680
+    enter-room = s .room
 
 pub ruleset names = (
   needs,
@@ -285,6 +365,26 @@ pub ruleset names = (
   walk-less,
 )
 
-pub ruleset sweeps = (needs, any-first, any-third, any-onward, any-inside, repeated-none, sweep-begin, sweep-name, sweep-long, sweep-seen, sweep-again, sweep-done, walk-onward, walk-less)
+pub ruleset sweeps = (
+  needs,
+  any-first,
+  any-third,
+  any-onward,
+  any-inside,
+  repeated-none,
+  repeated-told,
+  sweep-begin,
+  sweep-name,
+  sweep-long,
+  sweep-seen,
+  sweep-again,
+  sweep-onward,
+  sweep-done,
+  sweep-told,
+  walk-onward,
+  walk-less,
+)
 
-pub ruleset threads = (needs, any-third, thread-begin, thread-name, thread-again, sweep-done, walk-less)
+pub ruleset threads = (needs, any-third, thread-begin, thread-name, thread-again, sweep-told, walk-less)
+
+pub ruleset enters = (needs, any-first, any-third, any-onward, any-inside, repeated-none, enter-begin, enter-name, enter-again, enter-done, enter-room, walk-less)

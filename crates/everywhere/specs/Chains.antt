@@ -9,6 +9,8 @@ use Rattle.nodes.specs.Faults.{fault, least}
 use Rattle.everywhere.specs.Everywhere.{among}
 use Rattle.nodes.specs.Laws.{StringAt}
 use Rattle.everywhere.specs.Parts.{AnyPart, textAt}
+use Rattle.everywhere.specs.declared.Search.{Search}
+use Rattle.everywhere.specs.declared.Search.the-variants.{Ended}
 
 -- a number of some bytes, where those before them have the number h
 unfoldable pub hashFrom : ℕ → List ℕ → ℕ
@@ -54,6 +56,10 @@ pub record ChainNode (x t ls : List ℕ) (head k : ℕ) : Type 0 where
 pub record InChain (x t ls : List ℕ) (head k : ℕ) (r : Bool) : Type 0 where
   pub is : (us : List (List ℕ)) → Chained x t ls head us → r ≡ among us (textAt x t k)
 
+-- the same of a search that came to the end of the chain
+pub record Searched (x t ls : List ℕ) (head k : ℕ) (s : Search) : Type 0 where
+  pub ended : (r : Bool) → s ≡ Ended r → InChain x t ls head k r
+
 -- a name at the node k, and chains of names before it
 pub record ChainAt (x t ls hs : List ℕ) (k : ℕ) : Type 0 where
   pub texts : List (List ℕ)
@@ -65,9 +71,9 @@ pub record ChainAt (x t ls hs : List ℕ) (k : ℕ) : Type 0 where
   pub links : length ls ≡ 32784
   pub heads : length hs ≡ 4096
 
--- r is the least of b and of the fault of the name at the node k, if it is among those of the chains; afterwards it is one of them
+-- r is the least of b and of the fault of the name at the node k, if it is among those of the chains, or 0, which tells nothing; afterwards it is one of them
 pub record ChainGives (x t ls hs ls′ hs′ : List ℕ) (k b r : ℕ) : Type 0 where
-  pub is : (us : List (List ℕ)) → Chains x t ls hs k us → r ≡ least b (map (fault 6) (cond (among us (textAt x t k)) (getD t k 0 ∷ []) []))
+  pub is : (r ≡ 0 → ⊥) → (us : List (List ℕ)) → Chains x t ls hs k us → r ≡ least b (map (fault 6) (cond (among us (textAt x t k)) (getD t k 0 ∷ []) []))
   pub more : (us : List (List ℕ)) (m : ℕ) → Chains x t ls hs k us → k + 3 ≤ m → Chains x t ls′ hs′ m (textAt x t k ∷ us)
   pub links : length ls′ ≡ 32784
   pub heads : length hs′ ≡ 4096

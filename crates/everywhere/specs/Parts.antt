@@ -49,6 +49,10 @@ pub record AnyPart (x t : List ℕ) (i : ℕ) : Type 0 where
 pub record PartGives (rule : ℕ) (own : Part → List ℕ) (x t : List ℕ) (i b r : ℕ) : Type 0 where
   pub is : (d : Part) → Stands x t i d → r ≡ least b (map (fault rule) (own d))
 
+-- the same, unless r is 0, which tells nothing
+pub record PartTells (rule : ℕ) (own : Part → List ℕ) (x t : List ℕ) (i b r : ℕ) : Type 0 where
+  pub told : (r ≡ 0 → ⊥) → PartGives rule own x t i b r
+
 -- the names of some members, decoded, the last first, before the texts `last`
 unfoldable pub earlier : List (List ℕ) → Members → List (List ℕ)
 unfolding decode

@@ -4,15 +4,15 @@ use Rattle.everywhere.proofs.in_chain.Statement.{statement}
 use Rattle.everywhere.proofs.in_chain.Tie as tie
 
 abbrev Inv-loop : tie.InvT-loop
-Inv-loop text table links head k from to e₀ e = Follows text table links head k e
+Inv-loop text table links head k from to left₀ e₀ left e = Follows text table links head k e
 
 abbrev μ-loop : tie.MeasureT-loop
-μ-loop text table links head k from to e₀ e = e
+μ-loop text table links head k from to left₀ e₀ left e = e
 
 loop-again : tie.Need-loop-again Inv-loop μ-loop
 loop-again c =
     follow-again (search) (search) (c .before .before .before .before .start2 .ensures) (c .before .before .before .end2 .ensures)
-    (search) (search) (c .before .before .same-string .ensures) (c .before .if1 .left) (c .link .ensures)
+    (search) (search) (c .before .before .same-string .ensures) (c .before .if2 .left) (c .link .ensures)
 
 pub in-chain-spec : {M : Type 1} → statement M
 in-chain-spec =
@@ -22,6 +22,8 @@ in-chain-spec =
     μ-loop
     (λ c κs. search follows)
     (λ c κs. search follows)
+    (λ c. search follows)
+    (λ c. search follows)
     (λ c. search follows)
     (λ c κs. search follows)
     (λ c κs. search follows)

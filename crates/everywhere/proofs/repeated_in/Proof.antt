@@ -4,12 +4,13 @@ use mathlib.Core.Path.{_≡_}
 use native.Mathlib.Omega.{arith}
 use lib.ListN.{length}
 use Rattle.nodes.specs.Reads.{walk-room}
+use Rattle.everywhere.proofs.Passes.{NotZero}
 use Rattle.everywhere.proofs.Rule6.{Sweeps, Any, sweeps}
 use Rattle.everywhere.proofs.repeated_in.Statement.{statement}
 use Rattle.everywhere.proofs.repeated_in.Tie as tie
 
 abbrev Inv-loop : tie.InvT-loop
-Inv-loop text table links₀ i best at n first least₀ seen₀ k₀ links least seen k = (Sweeps text table i first n best k least Any) × (length links ≡ 32784) × (seen ≤ k)
+Inv-loop text table links₀ i best at n first least₀ seen₀ k₀ links least seen k = (Sweeps NotZero text table i first n best k least Any) × (length links ≡ 32784) × (seen ≤ k)
 
 abbrev μ-loop : tie.MeasureT-loop
 μ-loop text table links₀ i best at n first least₀ seen₀ k₀ links least seen k = n - k

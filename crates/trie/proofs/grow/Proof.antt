@@ -1,0 +1,33 @@
+-- `trie::grow` meets its contract.
+use Rattle.trie.proofs.Rules.{grows}
+use Rattle.trie.proofs.grow.Statement.{statement}
+use Rattle.trie.proofs.grow.Tie as tie
+
+pub grow-spec : {M : Type 1} → statement M
+grow-spec =
+    tie.close
+    (tie.spec
+    (λ c. search grows)
+    (λ c. search grows)
+    (λ c. search grows)
+    (λ c. search grows)
+    (λ c. search grows)
+    (λ c. search grows)
+    (λ c. search grows)
+    (λ c. search grows)
+    (λ c. search grows)
+    (λ c. search grows)
+    (λ c. search grows)
+    (λ c κs. search grows)
+    (λ c. search grows)
+    (λ c. search grows)
+    (λ c. search grows)
+    (λ c. search grows)
+    (λ c. search grows)
+    (λ c. search grows)
+    (λ c. search grows)
+    (λ c. search grows)
+    (λ c. search grows)
+    (λ c. search grows)
+    (λ c. search grows)
+    (λ c. search grows))

@@ -1,0 +1,3 @@
+-- A trie of texts.
+pub mod Trie
+pub mod Laws
