@@ -17,8 +17,8 @@ use Rattle.model.specs.Read.{orNull}
 use Rattle.writer.specs.Writes.{Writes, Stores, Closes}
 use Rattle.writer.specs.Laws.{nothing, then, as-bytes}
 use Rattle.arrays.specs.Fits.{Elements}
-use Rattle.geometries.specs.Fits.{Perhaps}
-use Rattle.geometries.specs.Bytes.{eachIn}
+use Rattle.geometry_records.specs.Fits.{Perhaps}
+use Rattle.geometry_records.specs.Bytes.{eachIn}
 use Rattle.records.specs.Fits.{Text}
 use Rattle.records.specs.Bytes.{numbersIn}
 use Rattle.records.specs.Says.{linkBytes, LinksWrote}

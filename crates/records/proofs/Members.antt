@@ -12,8 +12,8 @@ use Rattle.model.specs.Read.{decimalOf, threeOf}
 use Rattle.arrays.specs.Fits.{Pair, Triple}
 use Rattle.arrays.specs.Says.{Holds, Wrote}
 use Rattle.arrays.specs.Laws.{holds-as}
-use Rattle.geometries.specs.Members.{Named, Leads}
-use Rattle.geometries.proofs.Members.{wrote-led, has-named, typed}
+use Rattle.geometry_records.specs.Members.{Named, Leads}
+use Rattle.geometry_records.proofs.Members.{wrote-led, has-named, typed}
 use Rattle.records.specs.Fits.{TransformFits}
 use Rattle.records.specs.Members.{pairsMember}
 

@@ -20,7 +20,7 @@ use Rattle.writer.specs.Writes.{Writes, Closes}
 use Rattle.writer.specs.Laws.{then}
 use Rattle.arrays.specs.Says.{Wrote}
 use Rattle.arrays.specs.Laws.{wrote-then}
-use Rattle.geometries.proofs.Payloads.{IsRecord}
+use Rattle.geometry_records.proofs.Payloads.{IsRecord}
 use Rattle.records.specs.Bytes.{identityBytes, transformBytes, verticesBytes}
 use Rattle.records.specs.Says.{IdentityWrote}
 use Rattle.records.specs.Members.{MemberWrote, pairsMember, identityPayload, transformPayload}

@@ -3,8 +3,8 @@ use borrow.Author.Needs.{needs}
 use Rattle.nodes.specs.Reads.{node-room, node-onward}
 use Rattle.fields.specs.Laws.{sought-in}
 use Rattle.ids.proofs.Rules.{member-onward, member-text, text-first, text-second, text-some, text-fits, text-span}
-use Rattle.geometries.proofs.Nodes.{wrote-onward}
-use Rattle.geometries.proofs.Members.{led, named-there}
+use Rattle.geometry_records.proofs.Nodes.{wrote-onward}
+use Rattle.geometry_records.proofs.Members.{led, named-there}
 use Rattle.records.proofs.Members.{pairs-led, transform-scale, transform-translate, object-typed}
 use Rattle.records.proofs.Payloads.{id-wrote, identity-parts, identity-closed, member-wrote-onward, transform-parts}
 use Rattle.records.proofs.LinkRows.{numbering-start, numbering-turn, numbering-done, link-wrote, payload-onward, links-wrote}

@@ -21,9 +21,9 @@ use Rattle.writer.specs.Laws.{nothing, then, as-bytes}
 use Rattle.arrays.specs.Fits.{Elements, Triple, Coordinate}
 use Rattle.arrays.specs.Says.{Holds, Wrote}
 use Rattle.arrays.specs.Laws.{holds-at, holds-as}
-use Rattle.geometries.specs.Fits.{Perhaps, GeometryFits}
-use Rattle.geometries.specs.Members.{Named, Leads, geometriesMember}
-use Rattle.geometries.proofs.Members.{has-named, wrote-led}
+use Rattle.geometry_records.specs.Fits.{Perhaps, GeometryFits}
+use Rattle.geometry_records.specs.Members.{Named, Leads, geometriesMember}
+use Rattle.geometry_records.proofs.Members.{has-named, wrote-led}
 use Rattle.records.specs.Fits.{ObjectFits, TransformFits, RootFits}
 use Rattle.records.specs.Bytes.{identityBytes, objectBytes, transformBytes, verticesBytes}
 use Rattle.records.specs.Parts.{object-parts, sheet-parts}

@@ -25,8 +25,8 @@ use Rattle.sheets.specs.Numbers.{coordinate-clear, vertex-clear}
 use Rattle.sheets.specs.Short.{tree-within}
 use Rattle.sheets.specs.Faultless.{objectChecks, rootChecks, objects-clear}
 use Rattle.arrays.specs.Fits.{Pair, Coordinate, Elements, Triple}
-use Rattle.geometries.specs.Fits.{GeometryFits}
-use Rattle.geometries.specs.Accepted.{Small, Fit, array-fits, has-fits, perhaps-fits, count-small, geometry-fits}
+use Rattle.geometry_records.specs.Fits.{GeometryFits}
+use Rattle.geometry_records.specs.Accepted.{Small, Fit, array-fits, has-fits, perhaps-fits, count-small, geometry-fits}
 use Rattle.records.specs.Fits.{Text, ObjectFits, TransformFits, RootFits}
 
 -- ---- numbers

@@ -10,7 +10,7 @@ use Rattle.utf8.specs.Bytes.{le}
 use Rattle.model.specs.Code.{signed, concatMap}
 use Rattle.model.specs.Model.{rec, layRec, layThree, layDecimal, objectRecs, objectNumber, numberObject}
 use Rattle.model.specs.Read.{get, decimalOf, integerOf, threeOf, objectOf}
-use Rattle.geometries.specs.Bytes.{eachIn}
+use Rattle.geometry_records.specs.Bytes.{eachIn}
 
 -- the numbers of the objects that a list of links names, where these are the objects' IDs
 unfoldable pub numbersIn : List (List ℕ) → Option Json → List ℕ

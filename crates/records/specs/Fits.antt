@@ -6,7 +6,7 @@ use Rattle.nodes.specs.Access.{isStringValue}
 use Rattle.fields.specs.Fields.{objectsOf}
 use Rattle.model.specs.Code.{All}
 use Rattle.arrays.specs.Fits.{Pair, Coordinate, Elements, Triple}
-use Rattle.geometries.specs.Fits.{Has, Perhaps, GeometryFits}
+use Rattle.geometry_records.specs.Fits.{Has, Perhaps, GeometryFits}
 
 -- a string
 unfoldable pub Text : Json → Type 0

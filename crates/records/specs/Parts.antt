@@ -14,8 +14,8 @@ use Rattle.model.specs.Read.{get, orNull, decimalOf, integerOf, threeOf, geomet
 use Rattle.arrays.specs.Parts.{each-map}
 use Rattle.sheets.specs.Clear.{type-text, objects-members}
 use Rattle.ids.specs.Says.{namesOf}
-use Rattle.geometries.specs.Bytes.{eachIn, geometryBytes}
-use Rattle.geometries.specs.Parts.{each-++}
+use Rattle.geometry_records.specs.Bytes.{eachIn, geometryBytes}
+use Rattle.geometry_records.specs.Parts.{each-++}
 use Rattle.records.specs.Bytes.{numbersIn, identityBytes, objectBytes, transformBytes, verticesBytes}
 
 -- ---- parts

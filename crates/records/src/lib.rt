@@ -16,7 +16,7 @@ ghost use Rattle.model.specs.Model.{rec, layRec};
 ghost use Rattle.writer.specs.Writes.{Writes};
 ghost use Rattle.arrays.specs.Fits.{Pair, Elements, Triple, Coordinate};
 ghost use Rattle.arrays.specs.Says.{Holds, Wrote};
-ghost use Rattle.geometries.specs.Members.{Named};
+ghost use Rattle.geometry_records.specs.Members.{Named};
 ghost use Rattle.records.specs.Members.{MemberWrote, pairsMember, transformMember, verticesMember, frameBytes, identityPayload, transformPayload};
 ghost use Rattle.records.specs.Fits.{ObjectFits, TransformFits, RootFits};
 ghost use Rattle.records.specs.Bytes.{transformBytes, verticesBytes};
@@ -111,7 +111,7 @@ fn object(
 {
     let a = identity(text, table, own, sheet, at);
     let b = links(children, parents, k, sheet, a);
-    geometries::geometries_in(text, table, own + 3, sheet, b)
+    geometry_records::geometries_in(text, table, own + 3, sheet, b)
 }
 
 // All objects.
@@ -142,7 +142,7 @@ fn pairs(text: &[u8], table: &[u32], i: usize, name: &[u8], sheet: &mut [u8], at
     requires { ⌜ Holds (Named (Triple Pair) (now name)) (now text) (now table) i ⌝ }
     ensures { λ r. ⌜ Wrote (pairsMember (now (name .entry))) (now (text .entry)) (now (table .entry)) i (now (sheet .entry)) (now (sheet .exit)) at r ⌝ }
 {
-    let k = geometries::the_member(text, table, i, name);
+    let k = geometry_records::the_member(text, table, i, name);
     arrays::pairs(text, table, k, sheet, at)
 }
 
@@ -171,7 +171,7 @@ fn transform_in(text: &[u8], table: &[u32], sheet: &mut [u8], at: usize) -> usiz
     requires { ⌜ Holds RootFits (now text) (now table) 0 ⌝ }
     ensures { λ r. ⌜ Wrote transformMember (now (text .entry)) (now (table .entry)) 0 (now (sheet .entry)) (now (sheet .exit)) at r ⌝ }
 {
-    let i = geometries::the_member(text, table, 0, b"transform");
+    let i = geometry_records::the_member(text, table, 0, b"transform");
     transform(text, table, i, sheet, at)
 }
 
@@ -191,7 +191,7 @@ fn vertices_in(text: &[u8], table: &[u32], sheet: &mut [u8], at: usize) -> usize
     requires { ⌜ Holds RootFits (now text) (now table) 0 ⌝ }
     ensures { λ r. ⌜ Wrote verticesMember (now (text .entry)) (now (table .entry)) 0 (now (sheet .entry)) (now (sheet .exit)) at r ⌝ }
 {
-    let i = geometries::the_member(text, table, 0, b"vertices");
+    let i = geometry_records::the_member(text, table, 0, b"vertices");
     vertices(text, table, i, sheet, at)
 }
 

@@ -1,5 +1,5 @@
 -- `records::transform` meets its contract.
-use Rattle.geometries.proofs.Payloads.{closed}
+use Rattle.geometry_records.proofs.Payloads.{closed}
 use Rattle.records.proofs.Payloads.{transform-record}
 use Rattle.records.proofs.Rules.{headers}
 use Rattle.records.proofs.transform.Statement.{statement}

@@ -1,9 +1,0 @@
--- `geometries::quoted` meets its contract.
-use Rattle.geometries.proofs.Rules.{geometries}
-use Rattle.geometries.proofs.quoted.Statement.{statement}
-use Rattle.geometries.proofs.quoted.Tie as tie
-
-pub quoted-spec : {M : Type 1} → statement M
-quoted-spec =
-    tie.close (tie.spec (λ c. search geometries) (λ c. search geometries) (λ c. search geometries) (λ c κs. search geometries) (λ c. search geometries)
-    (λ c κs. search geometries) (λ c κs. search geometries) (λ c. search geometries))

@@ -1,7 +1,0 @@
--- `geometries::quoted_member` meets its contract.
-use Rattle.geometries.proofs.Rules.{geometries}
-use Rattle.geometries.proofs.quoted_member.Statement.{statement}
-use Rattle.geometries.proofs.quoted_member.Tie as tie
-
-pub quoted-member-spec : {M : Type 1} → statement M
-quoted-member-spec = tie.close (tie.spec (λ c κs. search geometries) (λ c κs. search geometries) (λ c. search geometries))

@@ -1,8 +1,0 @@
--- `geometries::shape` meets its contract.
-use Rattle.geometries.proofs.Payloads.{shape-closed}
-use Rattle.geometries.proofs.Rules.{headers}
-use Rattle.geometries.proofs.shape.Statement.{statement}
-use Rattle.geometries.proofs.shape.Tie as tie
-
-pub shape-spec : {M : Type 1} → statement M
-shape-spec = tie.close (tie.spec (λ c κs. search headers) (λ c κs. search headers) (λ c κs. search headers) (λ c. search headers) (λ c. search shape-closed))

@@ -1,9 +1,0 @@
--- `geometries::surface_body` meets its contract.
-use Rattle.utf8.specs.Ascii.{ascii}
-use Rattle.geometries.proofs.Rules.{geometries}
-use Rattle.geometries.proofs.surface_body.Statement.{statement}
-use Rattle.geometries.proofs.surface_body.Tie as tie
-
-pub surface-body-spec : {M : Type 1} → statement M
-unfolding ascii
-surface-body-spec = tie.close (tie.spec (λ c. search geometries) (λ c κs. search geometries) (λ c κs. search geometries) (λ c. search geometries) (λ c. search geometries))

@@ -1,9 +1,0 @@
--- `geometries::values` meets its contract.
-use Rattle.geometries.proofs.Members.{values-named}
-use Rattle.geometries.proofs.Payloads.{values-closed}
-use Rattle.geometries.proofs.Rules.{headers}
-use Rattle.geometries.proofs.values.Statement.{statement}
-use Rattle.geometries.proofs.values.Tie as tie
-
-pub values-spec : {M : Type 1} → statement M
-values-spec = tie.close (tie.spec (λ c κs. search headers) (λ c κs. search values-named) (λ c κs. search headers) (λ c. search headers) (λ c. search values-closed))
