@@ -14,8 +14,7 @@ use Rattle.strings.specs.Laws.{onward, at-plain, at-end, step-done, step-byte, 
 use Rattle.strings.specs.declared.Cursor.{Cursor}
 use Rattle.strings.specs.declared.Step.{Step}
 use Rattle.strings.specs.declared.Step.the-variants.{Byte, Done}
-use Rattle.trie.specs.Trie.{byteOf, valueOf, Meets, none, here, next, Child, Reaches, stop, on, Grown, Keeps, Walked, Sought, Walks, ChildIs, Finds, Emptied, Puts}
-use Rattle.trie.specs.Laws.{meets-unique, child-unique}
+use Rattle.trie.specs.Trie.{byteOf, valueOf, Meets, none, here, next, Child, Reaches, stop, on, Grown, Keeps, Walked, Sought, Walks, Emptied, Puts}
 
 -- ---- the search among children
 
@@ -341,113 +340,6 @@ module _ (x m : List ℕ) (n : ℕ) (e : Step) (h : Steps x m n e) where
   step-more b d q k w z = walking-more k w (step-byte x m n e h b d q) z
 
 pub ruleset walks = (needs, onward, walking-begin, walking-inside, walking-few, walking-room, walking-lost, plain-end, plain-more, plain-rest, step-end, step-more, step-span, step-nearer)
-
--- ---- finding a text
-
-module _ {t : List ℕ} {c s b w : ℕ} (l : s < c) (f : Sought t c b s w) where
-  pub child-lost : ChildIs t c s b 65537
-  child-lost = record { told = λ h. absurd (omega arith); absent = λ z. absurd (omega (arith, z)) }
-
-  module _ {m : ℕ} (i : w < 327680) (q : m ≡ getD t w 0) (h : m < 65536) where
-    pub child-none : m ≡ 0 → ChildIs t c s b 65536
-    child-none z =
-        record { told = λ k. absurd (omega arith); absent = λ y e p. p .some (sym (p .is) ∙ (ap (λ (j : ℕ). getD t j 0) (meets-unique (p .meets) (f .told i)) ∙ (sym q ∙ z))) }
-
-    pub child-found : (m ≡ 0 → ⊥) → ChildIs t c s b m
-    child-found z = record { told = λ k. record { inside = l; slot = w; meets = f .told i; is = sym q; some = z }; absent = λ y. absurd (omega (arith, y)) }
-
-pub ruleset children = (needs, child-lost, child-none, child-found)
-
-child-low : {t : List ℕ} {c s b r : ℕ} → Child t c s b r → r < c
-child-low p = rw (← p .is) (meets-low (p .meets) (λ z. p .some (sym (p .is) ∙ z)))
-
--- the first byte of a text that leads somewhere
-record First (t : List ℕ) (c s b : ℕ) (u : List ℕ) (e : ℕ) : Type 0 where
-  mid : ℕ
-  child : Child t c s b mid
-  rest : Reaches t c mid u e
-
-first : {t : List ℕ} {c s b e : ℕ} {u : List ℕ} → Reaches t c s (b ∷ u) e → First t c s b u e
-first (on {m = m} p q) = record { mid = m; child = p; rest = q }
-
--- the bytes `all` lead from the entry s₀ to where `rest` leads from the entry s
-pub record Finding (t : List ℕ) (c s₀ : ℕ) (all : List ℕ) (s : ℕ) (rest : List ℕ) : Type 0 where
-  pub inside : s < c
-  few : c ≤ 65536
-  onto : (e : ℕ) → Reaches t c s rest e → Reaches t c s₀ all e
-  back : (e : ℕ) → Reaches t c s₀ all e → Reaches t c s rest e
-
-pub finding-begin : (t : List ℕ) {c s : ℕ} (all : List ℕ) → s < c → c ≤ 65536 → Finding t c s all s all
-finding-begin t all l h = record { inside = l; few = h; onto = λ e p. p; back = λ e p. p }
-
-module _ {t : List ℕ} {c s₀ : ℕ} {all : List ℕ} {s : ℕ} {rest : List ℕ} (k : Finding t c s₀ all s rest) where
-  pub finding-inside : s < c
-  finding-inside = k .inside
-
-  finding-end : rest ≡ [] → Finds t c s₀ all s
-  finding-end q =
-      let y : Reaches t c s rest s = rw q stop in
-      record { told = λ h. (k .onto s y, k .inside); absent = λ z. absurd (omega (arith, z, k .inside, k .few)) }
-
-  finding-rest : {r : ℕ} → Finds t c s rest r → Finds t c s₀ all r
-  finding-rest {r} f = record { told = λ h. let o = f .told h in (k .onto r (o .0), o .1); absent = λ z e p. f .absent z e (k .back e p) }
-
-  module _ {b r : ℕ} {m : List ℕ} (q : rest ≡ b ∷ m) (d : ChildIs t c s b r) where
-    finding-lost : 65536 ≤ r → Finds t c s₀ all r
-    finding-lost h = record { told = λ l. absurd (omega arith); absent = λ z e p. let o = first (rw q at (k .back e p)) in d .absent z (o .mid) (o .child) }
-
-    finding-more : r < 65536 → Finding t c s₀ all r m
-    finding-more l =
-        let p = d .told l in
-        record {
-          inside = child-low p;
-          few = k .few;
-          onto = λ e y. k .onto e (rw q (on p y));
-          back = λ e y. let o = first (rw q at (k .back e y)) in rw (child-unique p (o .child)) (o .rest);
-        }
-
--- at a byte of the text
-module _ {x : List ℕ} {at end : ℕ} (d : Span x at end) {t : List ℕ} {c s₀ : ℕ} {all : List ℕ} {s : ℕ} (k : Finding t c s₀ all s (decodeAt x at end)) where
-  pub find-end : end ≤ at → Finds t c s₀ all s
-  find-end l = finding-end k (at-end d l)
-
-  pub find-rest : {r : ℕ} → Finds t c s (ahead x (record { at = at; end = end; word = 0; left = 0 })) r → Finds t c s₀ all r
-  find-rest {r} w = finding-rest k (rw (ahead-start x at end 0) at w)
-
-  module _ {r : ℕ} (l : at < end) (n : getD x at 0 ≡ 92 → ⊥) (w : ChildIs t c s (getD x at 0) r) where
-    pub find-lost : 65536 ≤ r → Finds t c s₀ all r
-    find-lost h = finding-lost k (at-plain d l n) w h
-
-    pub find-more : r < 65536 → Finding t c s₀ all r (decodeAt x (at + 1) end)
-    find-more h = finding-more k (at-plain d l n) w h
-
--- at a byte that the cursor hands out
-module _ (x m : List ℕ) (n : ℕ) (e : Step) (h : Steps x m n e) {t : List ℕ} {c s₀ : ℕ} {all : List ℕ} {s : ℕ} where
-  pub ahead-end : e ≡ Done → Finding t c s₀ all s m → Finds t c s₀ all s
-  ahead-end q k = finding-end k (step-done x m n e h q)
-
-  module _ {r : ℕ} (b : ℕ) (d : Cursor) (q : e ≡ Byte b d) (k : Finding t c s₀ all s m) (w : ChildIs t c s b r) where
-    pub ahead-lost : 65536 ≤ r → Finds t c s₀ all r
-    ahead-lost o = finding-lost k (step-byte x m n e h b d q) w o
-
-    pub ahead-more : r < 65536 → Finding t c s₀ all r (ahead x d)
-    ahead-more o = finding-more k (step-byte x m n e h b d q) w o
-
-pub ruleset finds = (
-  needs,
-  onward,
-  finding-begin,
-  finding-inside,
-  find-end,
-  find-rest,
-  find-lost,
-  find-more,
-  ahead-end,
-  ahead-lost,
-  ahead-more,
-  step-span,
-  step-nearer,
-)
 
 -- ---- values
 

@@ -6,7 +6,7 @@ use lib.ListN.{getD}
 use Rattle.trie.specs.Trie.{Meets, none, here, next, Child, Reaches, stop, on}
 
 module _ {t : List ℕ} {c : ℕ} where
-  pub meets-unique : {b q m z z′ : ℕ} → Meets t c b q m z → Meets t c b q m z′ → z ≡ z′
+  meets-unique : {b q m z z′ : ℕ} → Meets t c b q m z → Meets t c b q m z′ → z ≡ z′
   meets-unique (none h q) (none k p) = refl
   meets-unique (none h q) (here k l n p) = refl
   meets-unique (none h q) (next k l n p o) = absurd (n q)
@@ -17,7 +17,7 @@ module _ {t : List ℕ} {c : ℕ} where
   meets-unique (next h l n q p) (here k o u v) = absurd (q v)
   meets-unique (next h l n q p) (next k o u v w) = meets-unique p w
 
-  pub child-unique : {s b r r′ : ℕ} → Child t c s b r → Child t c s b r′ → r ≡ r′
+  child-unique : {s b r r′ : ℕ} → Child t c s b r → Child t c s b r′ → r ≡ r′
   child-unique p q = sym (p .is) ∙ (ap (λ (z : ℕ). getD t z 0) (meets-unique (p .meets) (q .meets)) ∙ q .is)
 
   -- a text leads to one entry

@@ -65,16 +65,6 @@ pub record Walks (t : List ℕ) (c s : ℕ) (u t′ : List ℕ) (c′ r : ℕ) :
   pub room : length t′ ≡ 327680
   pub told : (c′ ≡ 0 → ⊥) → Walked t c s u t′ c′ r
 
--- r is the child of the entry s by the byte b, or 65,536 if there is none, or a greater number, which tells nothing
-pub record ChildIs (t : List ℕ) (c s b r : ℕ) : Type 0 where
-  pub told : r < 65536 → Child t c s b r
-  pub absent : r ≡ 65536 → (e : ℕ) → Child t c s b e → ⊥
-
--- the same of the entry to which the text u leads from the entry s
-pub record Finds (t : List ℕ) (c s : ℕ) (u : List ℕ) (r : ℕ) : Type 0 where
-  pub told : r < 65536 → Reaches t c s u r × (r < c)
-  pub absent : r ≡ 65536 → (e : ℕ) → Reaches t c s u e → ⊥
-
 -- a root alone, with no value
 pub record Emptied (t : List ℕ) : Type 0 where
   pub room : length t ≡ 327680

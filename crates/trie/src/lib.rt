@@ -6,7 +6,7 @@ ghost use mathlib.Core.Path.{_≡_};
 ghost use mathlib.Core.List.{[], _∷_};
 ghost use lib.ListN.{length, getD};
 ghost use Rattle.strings.specs.Spans.{Span, decodeAt, ahead};
-ghost use Rattle.trie.specs.Trie.{valueOf, Sought, Grown, Walks, ChildIs, Finds, Emptied, Puts};
+ghost use Rattle.trie.specs.Trie.{valueOf, Sought, Grown, Walks, Emptied, Puts};
 
 // An entry, and the count of the entries.
 pub struct Place {
@@ -146,80 +146,6 @@ pub fn walk(text: &[u8], at: usize, end: usize, trie: &mut [u16; 327680], count:
         i += 1;
     }
     p
-}
-
-// The child of the entry s by the byte b; 65,536 if there is none, 65,537 if the search was given up.
-fn child(trie: &[u16; 327680], s: usize, c: usize, b: u8) -> usize
-    requires { ⌜ (s < c) × (c ≤ 65536) ⌝ }
-    ensures { λ r. ⌜ ChildIs (now (trie .entry)) c s b r ⌝ }
-{
-    let w = slot_of(trie, s, c, b);
-    if w >= 327680 {
-        return 65537;
-    }
-    let m = wide(trie[w]);
-    if m == 0 {
-        return 65536;
-    }
-    m
-}
-
-// The entry to which the bytes that the cursor has ahead lead from the entry s.
-fn find_ahead(
-    text: &[u8],
-    from: strings::Cursor,
-    trie: &[u16; 327680],
-    s: usize,
-    count: usize,
-) -> usize
-    requires { ⌜ (Span (now text) (from .at) (from .end)) × (s < count) × (count ≤ 65536) ⌝ }
-    ensures { λ r. ⌜ Finds (now (trie .entry)) count s (ahead (now (text .entry)) from) r ⌝ }
-{
-    let mut c = from;
-    let mut e = s;
-    loop {
-        let a = strings::next(text, c);
-        let strings::Step::Byte(b, d) = a else {
-            return e;
-        };
-        e = child(trie, e, count, b);
-        if e >= 65536 {
-            return e;
-        }
-        c = d;
-    }
-}
-
-// The entry to which the bytes that a string stands for lead; 65,536 if there is none, 65,537 if the search was given up.
-pub fn find(text: &[u8], at: usize, end: usize, trie: &[u16; 327680], count: usize) -> usize
-    requires { ⌜ (Span (now text) at end) × (0 < count) × (count ≤ 65536) ⌝ }
-    ensures { λ r. ⌜ Finds (now (trie .entry)) count 0 (decodeAt (now (text .entry)) at end) r ⌝ }
-{
-    let mut i = at;
-    let mut e = 0;
-    while i < end {
-        let b = text[i];
-        if b == b'\\' {
-            return find_ahead(
-                text,
-                strings::Cursor {
-                    at: i,
-                    end: end,
-                    word: 0,
-                    left: 0,
-                },
-                trie,
-                e,
-                count,
-            );
-        }
-        e = child(trie, e, count, b);
-        if e >= 65536 {
-            return e;
-        }
-        i += 1;
-    }
-    e
 }
 
 // Leaves the root alone, with no value.
