@@ -1,7 +1,5 @@
 -- What the proofs of several functions use.
-mod Passes
+pub mod Any
+pub mod Passes
 mod Rule5
-pub mod Rule6
 mod Hashes
-mod Links
-mod Entries

@@ -14,10 +14,10 @@ use Rattle.json.specs.Tree as tree
 use Rattle.json.specs.Table.{size, sizes, widths, Sub, null, bool, num, str, arr, obj, Subs, nil, cons, Fields, last, field}
 use Rattle.json.specs.Laws.{words}
 use Rattle.nodes.specs.Faults.{fault, least}
-use Rattle.everywhere.specs.Everywhere.{strings, unpairedIn, rule5, repeated, rule6, rule6In, rule6Of, stringsIn, stringsOf}
+use Rattle.everywhere.specs.Everywhere.{strings, unpairedIn, rule5, stringsIn, stringsOf}
 use Rattle.nodes.specs.Says.{Root, Gives}
-use Rattle.nodes.specs.Laws.{least-++, least-le, fieldsOf}
-use Rattle.everywhere.specs.Parts.{Part, value, name, Stands, of-value, of-name, own5, own6, AnyPart, PartGives, PartTells}
+use Rattle.nodes.specs.Laws.{least-++}
+use Rattle.everywhere.specs.Parts.{Part, value, name, Stands, of-value, of-name, own5, AnyPart, PartGives}
 
 -- the parts of a value, of elements and of members, in the text's order
 unfoldable mutual
@@ -37,7 +37,7 @@ unfoldable mutual
   partsOf tree.empty = []
   partsOf (member k v ms) = name k ∷ (parts v ++ partsOf ms)
 
-flat-++ : (f : Part → List ℕ) (ds es : List Part) → flatMap f (ds ++ es) ≡ flatMap f ds ++ flatMap f es
+pub flat-++ : (f : Part → List ℕ) (ds es : List Part) → flatMap f (ds ++ es) ≡ flatMap f ds ++ flatMap f es
 unfolding flatMap
 flat-++ f [] es = refl
 flat-++ f (d ∷ ds) es = ap (λ (l : List ℕ). f d ++ l) (flat-++ f ds es) ∙ sym (append-assoc (f d) (flatMap f ds) (flatMap f es))
@@ -70,26 +70,6 @@ mutual
 pub rule5-parts : (v : Json) → rule5 v ≡ flatMap own5 (parts v)
 unfolding rule5
 rule5-parts v = unpaired-parts v
-
--- rule 6 part by part
-mutual
-  unfolding rule6 repeated own6 fieldsOf parts flatMap
-
-  pub rule6-parts : (v : Json) → rule6 v ≡ flatMap own6 (parts v)
-  rule6-parts (tree.null p e) = refl
-  rule6-parts (tree.bool p e b) = refl
-  rule6-parts (tree.num p e raw) = refl
-  rule6-parts (tree.str p e raw) = refl
-  rule6-parts (tree.arr p e vs) = rule6-items vs
-  rule6-parts (tree.obj p e ms) = ap (λ (l : List ℕ). repeated [] ms ++ l) (rule6-members ms)
-
-  rule6-items : (vs : Items) → rule6In vs ≡ flatMap own6 (partsIn vs)
-  rule6-items tree.noItems = refl
-  rule6-items (v ▸ vs) = rw (flat-++, rule6-parts v, rule6-items vs)
-
-  rule6-members : (ms : Members) → rule6Of ms ≡ flatMap own6 (partsOf ms)
-  rule6-members tree.empty = refl
-  rule6-members (member k v ms) = rw (flat-++, rule6-parts v, rule6-members ms)
 
 -- three words a part
 mutual
@@ -161,16 +141,9 @@ pub rule5-clear : {x t : List ℕ} (b : ℕ) {r : Bool} → r ≡ hasByte 92 x �
 unfolding least
 rule5-clear b {r} q n = record { is = λ v s. rw (rule5-parts v, plain-row (sym q ∙ not-true r n) (row s)) }
 
--- what is claimed of the least so far: something always, or only unless it is 0
+-- something is claimed of every least so far
 abbrev pub Always : ℕ → Type 0
 Always b = Unit
-
-abbrev pub NotZero : ℕ → Type 0
-NotZero b = b ≡ 0 → ⊥
-
--- a least that is not 0 comes from one that is not 0
-pub not-zero-before : {b r : ℕ} (fs : List ℕ) → r ≡ least b fs → NotZero r → NotZero b
-not-zero-before {b} {r} fs q n z = n (omega (arith, least-le b fs))
 
 -- what a pass knows where it has come to the node k: the words from k up to n are those of the parts that are left,
 -- whose faults with b have the least `all`, if P holds of b
@@ -231,7 +204,7 @@ module _ {P : ℕ → Type 0} {rule : ℕ} {own : Part → List ℕ} {x t : List
   pub pass-part : k < n → AnyPart x t k
   pass-part l = let u = turn (c .left (c .root .value) (c .root .stands)) l in record { part = u .part; stands = u .stands; short = c .root .short }
 
-  again : {r : ℕ} → k < n → ((d : Part) → Stands x t k d → P r → P b × (r ≡ least b (map (fault rule) (own d)))) → Pass P rule own x t n b₀ (k + 3) r
+  pub again : {r : ℕ} → k < n → ((d : Part) → Stands x t k d → P r → P b × (r ≡ least b (map (fault rule) (own d)))) → Pass P rule own x t n b₀ (k + 3) r
   again l g =
       record {
         root = c .root;
@@ -246,7 +219,3 @@ module _ {P : ℕ → Type 0} {rule : ℕ} {own : Part → List ℕ} {x t : List
 module _ {rule : ℕ} {own : Part → List ℕ} {x t : List ℕ} {n b₀ k b r : ℕ} where
   pub pass-again : Pass Always rule own x t n b₀ k b → k < n → PartGives rule own x t k b r → Pass Always rule own x t n b₀ (k + 3) r
   pass-again c l g = again c l (λ d s z. (tt, g .is d s))
-
-  -- a turn that may give 0
-  pub pass-onward : Pass NotZero rule own x t n b₀ k b → k < n → PartTells rule own x t k b r → Pass NotZero rule own x t n b₀ (k + 3) r
-  pass-onward c l g = again c l (λ d s z. let y = g .told z .is d s in (not-zero-before (map (fault rule) (own d)) y z, y))

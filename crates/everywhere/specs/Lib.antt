@@ -3,5 +3,4 @@ pub mod Everywhere
 pub mod Examples
 pub mod Parts
 pub mod Chains
-pub mod Entries
 pub mod Laws

@@ -112,7 +112,7 @@ fn examine_tree(text: &[u8], table: &[u32], n: usize) -> Walked
     ensures { λ r. ⌜ TreeExamined (now (text .entry)) (now (table .entry)) r ⌝ }
 {
     let a = everywhere::unpaired(text, table, n, NO_FAULT);
-    let b = everywhere::repeated(text, table, n, a);
+    let b = repeats::repeated(text, table, n, a);
     schema::root(text, table, b)
 }
 
