@@ -95,7 +95,7 @@ module _ {x t ls : List ℕ} {head k : ℕ} where
       pub follow-span : {p q : ℕ} → p ≡ getD t e 0 → q ≡ getD t (e + 1) 0 → Span x (p + 1) (q - 1)
       follow-span q r = string-span (here .string) q r
 
-      pub follow-room : e < 98352
+      pub follow-room : e / 3 < length ls
       follow-room = here .room
 
       pub follow-less : {m : ℕ} → m ≡ getD ls (e / 3) 0 → m < e
@@ -132,7 +132,7 @@ chained-set : (k v : ℕ) {x t ls : List ℕ} {e : ℕ} {us : List (List ℕ)} �
 chained-set k v (end z) h = end z
 chained-set k v {ls = ls} {e = e} (link {us = us} l c) h =
     let z : getD (set ls (k / 3) v) (e / 3) 0 ≡ getD ls (e / 3) 0 = getD-set-other ls (k / 3) (e / 3) v 0 (λ q. omega arith) in
-    link {us = us} (record { room = l .room; back = rw z (l .back); raw = l .raw; string = l .string }) (rw z (chained-set k v c (omega (arith, l .back))))
+    link {e = e} {us = us} (record { room = rw (length-set ls (k / 3) v) (l .room); back = rw z (l .back); raw = l .raw; string = l .string }) (rw z (chained-set k v c (omega (arith, l .back))))
 
 -- no names yet
 pub chains-begin : (x t ls hs : List ℕ) (k : ℕ) → ((c : ℕ) → getD hs c 0 ≡ 0) → 3 ≤ k → Chains x t ls hs k []
@@ -140,8 +140,8 @@ unfolding kept
 chains-begin x t ls hs k z h = record { chain = λ c l. end (z c); below = λ c l. omega (arith, z c) }
 
 -- one name more, at the node k, which goes to the chain c
-module _ {x t ls hs : List ℕ} {k c : ℕ} {us : List (List ℕ)} (s : Chains x t ls hs k us) {raw : List ℕ} (d : StringAt x t k raw) (i : k < 98352)
-    (q : c ≡ chainOf (textAt x t k)) (l : c < 4096) (n : length ls ≡ 32784) (m : length hs ≡ 4096) where
+module _ {x t ls hs : List ℕ} {k c : ℕ} {us : List (List ℕ)} (s : Chains x t ls hs k us) {raw : List ℕ} (d : StringAt x t k raw) (i : k / 3 < length ls)
+    (q : c ≡ chainOf (textAt x t k)) (l : c < 4096) (m : length hs ≡ 4096) where
   head-same : (a : ℕ) → c ≡ a → getD (set hs c k) a 0 ≡ k
   head-same a z = rw (← z) (getD-set-same hs c k 0 (omega arith))
 
@@ -151,9 +151,9 @@ module _ {x t ls hs : List ℕ} {k c : ℕ} {us : List (List ℕ)} (s : Chains x
   chains-if : (a : ℕ) (b : Bool) → eqb (chainOf (textAt x t k)) a ≡ b → a < 4096 → Chained x t (set ls (k / 3) (getD hs c 0)) (getD (set hs c k) a 0) (cond b (textAt x t k ∷ kept a us) (kept a us))
   chains-if a true e f =
       let z : c ≡ a = q ∙ eqb-true _ _ e in
-      let w : getD (set ls (k / 3) (getD hs c 0)) (k / 3) 0 ≡ getD hs c 0 = getD-set-same ls (k / 3) (getD hs c 0) 0 (omega arith) in
+      let w : getD (set ls (k / 3) (getD hs c 0)) (k / 3) 0 ≡ getD hs c 0 = getD-set-same ls (k / 3) (getD hs c 0) 0 i in
       rw (head-same a z, ← z)
-      (link {us = kept c us} (record { room = i; back = rw w (omega (arith, s .below c l)); raw = raw; string = d })
+      (link {e = k} {us = kept c us} (record { room = rw (length-set ls (k / 3) (getD hs c 0)) i; back = rw w (omega (arith, s .below c l)); raw = raw; string = d })
       (rw w (chained-set k (getD hs c 0) (s .chain c l) (s .below c l))))
   chains-if a false e f = rw (head-other a (λ z. eqb-false _ _ e (sym q ∙ z))) (chained-set k (getD hs c 0) (s .chain a f) (s .below a f))
 
@@ -180,8 +180,9 @@ module _ {x t ls hs : List ℕ} {k : ℕ} (d : ChainAt x t ls hs k) where
     gives i =
         record {
           is = i;
-          more = λ us j s e. chains-more s (d .string) (d .inside) goes l (d .links) (d .heads) j e;
-          links = length-set ls (k / 3) (getD hs c 0) ∙ d .links;
+          more = λ us j s e. chains-more s (d .string) (d .inside) goes l (d .heads) j e;
+          value = d .value;
+          links = length-set ls (k / 3) (getD hs c 0);
           heads = length-set hs c k ∙ d .heads;
         }
 

@@ -1,5 +1,5 @@
 -- Rule 6 at one name and at one object.
-use Prim.Native.Nat.{ℕ, _+_, _-_, _≤_, _<_, min}
+use Prim.Native.Nat.{ℕ, _+_, _-_, _*_, _≤_, _<_, min}
 use mathlib.Core.Path.{_≡_, refl, sym, ap, _∙_}
 use mathlib.Core.Bool.{Bool, true, false, cond, not, _||_, or-false, or-true}
 use mathlib.Core.List.{List, [], _∷_, map, map-append}
@@ -21,14 +21,13 @@ use Rattle.nodes.specs.Faults.{fault, least}
 use Rattle.everywhere.specs.Everywhere.{among, repeated}
 use Rattle.nodes.specs.Laws.{quoted-at, kinds, fieldsOf, object-begin, no-fields, least-++, fresh-zero, fresh-length}
 use Rattle.everywhere.specs.Parts.{Part, value, Stands, of-value, of-name, AnyPart, PartGives, textAt}
-use Rattle.repeats.specs.Names.{own6, PartTells, earlier, NameNode, Repeats, RepeatGives}
+use Rattle.repeats.specs.Names.{own6, Sure, PartTells, earlier, NameNode, Repeats, RepeatGives}
 use Rattle.repeats.specs.Chains.{Chains, ChainAt, ChainGives, LongObject}
 use Rattle.repeats.specs.Entries.{Entries, EntryAt, EntryGives}
 use Rattle.trie.specs.Trie.{Emptied}
 use Rattle.repeats.proofs.Links.{chains-begin}
 use Rattle.repeats.proofs.Entries.{entries-begin}
-use Rattle.everywhere.proofs.Passes.{Always}
-use Rattle.repeats.proofs.Passes.{NotZero, not-zero-before}
+use Rattle.repeats.proofs.Passes.{sure-before, Lent, lent-begin, lent-on}
 use Rattle.nodes.specs.Reads.{string-first, string-second, string-some, string-fits, string-span, string-low, Walk, walk-of, walk-on, walk-first, walk-second, walk-room, walk-onward, walk-some, walk-fits, walk-span, walk-less}
 use Rattle.everywhere.proofs.Any.{any-first, any-third, any-onward, any-inside}
 
@@ -156,12 +155,12 @@ unfolding own6
 other-part (of-value {v = v} s) n = no-object v (sym (kinds s .object) ∙ ne-eqb _ _ n)
 other-part (of-name q) n = refl
 
-pub repeated-none : {x t : List ℕ} {i p : ℕ} (b : ℕ) → p ≡ getD t i 0 → (getD x p 0 ≡ 123 → ⊥) → PartGives 6 own6 x t i b b
+repeated-none : {x t : List ℕ} {i p : ℕ} (b : ℕ) → p ≡ getD t i 0 → (getD x p 0 ≡ 123 → ⊥) → PartGives 6 own6 x t i b b
 unfolding least
 repeated-none b e n = record { is = λ d s. rw (other-part s (λ h. n (rw e h))) }
 
-pub repeated-told : {x t : List ℕ} {i p : ℕ} (b : ℕ) → p ≡ getD t i 0 → (getD x p 0 ≡ 123 → ⊥) → PartTells 6 own6 x t i b b
-repeated-told b e n = record { told = λ z. repeated-none b e n }
+pub repeated-told : {x t : List ℕ} {i p : ℕ} (others b : ℕ) → p ≡ getD t i 0 → (getD x p 0 ≡ 123 → ⊥) → PartTells others 6 own6 x t i b b
+repeated-told others b e n = record { told = λ z. repeated-none b e n }
 
 -- r is the least of b and of the fault of the name at the node k, if it is among the texts us
 abbrev Least : List ℕ → List ℕ → ℕ → ℕ → ℕ → List (List ℕ) → Type 0
@@ -187,9 +186,13 @@ repeated-step {P} {x} {t} {first} {k} {n} {b₀} {b} {r} {Q} {R} {fields} u g q 
           rw (earlier-with [] (o .before) (u .key) (u .value), y, ← least-++, ← map-append) (o .holds (g z .0));
     }
 
--- a least that is not 0 comes from one that is not 0
-onward : (x t : List ℕ) (k : ℕ) {b r : ℕ} (us : List (List ℕ)) → (NotZero r → Least x t k b r us) → NotZero r → NotZero b × Least x t k b r us
-onward x t k us g z = let y = g z in (not-zero-before (map (fault 6) (cond (among us (textAt x t k)) (getD t k 0 ∷ []) [])) y z, y)
+-- a least that is sure comes from one that is sure
+onward : (x t : List ℕ) (k : ℕ) {others b r : ℕ} (us : List (List ℕ)) → (Sure others r → Least x t k b r us) → Sure others r → Sure others b × Least x t k b r us
+onward x t k us g z = let y = g z in (sure-before (map (fault 6) (cond (among us (textAt x t k)) (getD t k 0 ∷ []) [])) y z, y)
+
+-- where there is another way, an answer that is sure is not 0
+not-zero : {r : ℕ} → Sure 1 r → r ≡ 0 → ⊥
+not-zero s z = omega (arith, s z)
 
 -- nothing is asked of the texts of the names
 abbrev pub Any : List (List ℕ) → Type 0
@@ -217,8 +220,8 @@ module _ {x t : List ℕ} {i : ℕ} where
     pub sweep-name : k < n → NameNode x t first k
     sweep-name l = let u = turn l in record { before = u .holds .before; stand = u .holds .stand; ends = u .holds .ends; raw = u .key .raw; string = quoted-at (u .quoted); short = c .some .short }
 
-    pub sweep-long : {ls : List ℕ} → n ≤ 98352 → length ls ≡ 32784 → LongObject x t ls i
-    sweep-long f h = record { some = c .some; brace = c .brace; ends = rw (← c .ends) f; links = h }
+    pub sweep-long : {ls₀ ls : List ℕ} → n ≤ length ls * 3 → Lent ls₀ ls → LongObject x t ls i
+    sweep-long f l = record { some = c .some; brace = c .brace; ends = rw (← c .ends) f; few = l .few }
 
     -- the names that were seen are no more than the nodes that were passed
     pub sweep-seen : {seen m : ℕ} → k < n → seen ≤ k → m ≡ getD t (k + 3 + 2) 0 → seen + 1 ≤ m
@@ -232,11 +235,12 @@ module _ {x t : List ℕ} {i : ℕ} where
         it (of-value {v = v} s) = members-ended (c .left v s) h .holds z
         it (of-name q) = absurd (no-name (c .brace) q)
 
-  pub sweep-done : {first n b₀ k b : ℕ} {Q : List (List ℕ) → Type 0} → Sweeps Always x t i first n b₀ k b Q → n ≤ k → PartGives 6 own6 x t i b₀ b
-  sweep-done c h = done c h tt
-
-  pub sweep-told : {first n b₀ k b : ℕ} {Q : List (List ℕ) → Type 0} → Sweeps NotZero x t i first n b₀ k b Q → n ≤ k → PartTells 6 own6 x t i b₀ b
+  pub sweep-told : {others first n b₀ k b : ℕ} {Q : List (List ℕ) → Type 0} → Sweeps (Sure others) x t i first n b₀ k b Q → n ≤ k → PartTells others 6 own6 x t i b₀ b
   sweep-told c h = record { told = λ z. done c h z }
+
+  -- what the chains leave to another way is left where there are links
+  pub sweep-chained : {ls₀ ls : List ℕ} {n k b r : ℕ} → k < n → n ≤ length ls * 3 → Lent ls₀ ls → PartTells 1 6 own6 x t i b r → PartTells (length ls₀) 6 own6 x t i b r
+  sweep-chained l f e g = record { told = λ s. g .told (λ z. absurd (omega (arith, s z, e .same))) }
 
   -- past one name
   again : {P : ℕ → Type 0} {first n b₀ k b r m : ℕ} {Q R : List (List ℕ) → Type 0} → Sweeps P x t i first n b₀ k b Q → k < n → m ≡ getD t (k + 3 + 2) 0
@@ -248,31 +252,28 @@ module _ {x t : List ℕ} {i : ℕ} where
       onto : {fields : Members} (u : MemberPast x t k n (Earlier P x t first k b₀ b Q fields)) → MembersLeft x t m n (Earlier P x t first m b₀ r R fields)
       onto u = let o = u .holds in let e = g (o .before) (o .stand) (o .ends) (o .also) in rw q (member-over u (repeated-step u (e .0) (e .1)))
 
-  module _ {first n b₀ k b r m : ℕ} where
-    pub sweep-again : Sweeps Always x t i first n b₀ k b Any → k < n → RepeatGives x t first k b r → m ≡ getD t (k + 3 + 2) 0 → Sweeps Always x t i first n b₀ m r Any
-    sweep-again c l g q = again c l q (λ ms f e z. (λ y. (tt, g .is ms f e), tt))
-
-    pub sweep-onward : Sweeps NotZero x t i first n b₀ k b Any → k < n → RepeatGives x t first k b r → m ≡ getD t (k + 3 + 2) 0 → Sweeps NotZero x t i first n b₀ m r Any
-    sweep-onward c l g q = again c l q (λ ms f e z. (onward x t k (earlier [] ms) (λ y. g .is ms f e), tt))
+  pub sweep-onward : {others first n b₀ k b r m : ℕ} → Sweeps (Sure others) x t i first n b₀ k b Any → k < n → RepeatGives x t first k b r → m ≡ getD t (k + 3 + 2) 0
+      → Sweeps (Sure others) x t i first n b₀ m r Any
+  sweep-onward {first = first} {k = k} c l g q = again c l q (λ ms f e z. (onward x t k (earlier [] ms) (λ y. g .is ms f e), tt))
 
 -- the same loop by chains
-pub record Threads (x t ls hs : List ℕ) (i first n b₀ k b : ℕ) : Type 0 where
-  pub sweeps : Sweeps NotZero x t i first n b₀ k b (Chains x t ls hs k)
-  few : n ≤ 98352
-  pub links : length ls ≡ 32784
+pub record Threads (x t ls₀ ls hs : List ℕ) (i first n b₀ k b : ℕ) : Type 0 where
+  pub sweeps : Sweeps (Sure 1) x t i first n b₀ k b (Chains x t ls hs k)
+  room : n ≤ length ls * 3
+  pub lent : Lent ls₀ ls
   heads : length hs ≡ 4096
 
 module _ {x t : List ℕ} {i : ℕ} where
-  pub thread-begin : {n : ℕ} (b : ℕ) {ls : List ℕ} (hs : List ℕ) → LongObject x t ls i → n ≡ getD t (i + 2) 0 → hs ≡ replicate 4096 0 → Threads x t ls hs i (i + 3) n b (i + 3) b
+  pub thread-begin : {n : ℕ} (b : ℕ) {ls : List ℕ} (hs : List ℕ) → LongObject x t ls i → n ≡ getD t (i + 2) 0 → hs ≡ replicate 4096 0 → Threads x t ls ls hs i (i + 3) n b (i + 3) b
   thread-begin b {ls} hs d o z =
       record {
-        sweeps = begin NotZero b (d .some) refl (d .brace) o (chains-begin x t ls hs (i + 3) (fresh-zero 4096 z) (omega arith));
-        few = rw o (d .ends);
-        links = d .links;
+        sweeps = begin (Sure 1) b (d .some) refl (d .brace) o (chains-begin x t ls hs (i + 3) (fresh-zero 4096 z) (omega arith));
+        room = rw o (d .ends);
+        lent = lent-begin (d .few);
         heads = fresh-length 4096 z;
       }
 
-  module _ {first n b₀ k b : ℕ} {ls hs : List ℕ} (c : Threads x t ls hs i first n b₀ k b) where
+  module _ {first n b₀ k b : ℕ} {ls₀ ls hs : List ℕ} (c : Threads x t ls₀ ls hs i first n b₀ k b) where
     pub thread-name : k < n → ChainAt x t ls hs k
     thread-name l =
         let u = turn (c .sweeps) l in
@@ -282,24 +283,31 @@ module _ {x t : List ℕ} {i : ℕ} where
           raw = u .key .raw;
           string = quoted-at (u .quoted);
           short = c .sweeps .some .short;
-          inside = omega (arith, c .few);
-          links = c .links;
+          inside = omega (arith, c .room);
+          low = omega (arith, c .room, c .lent .few);
+          value = walk-room (c .sweeps .walk) l;
           heads = c .heads;
         }
 
-    pub thread-again : {r m : ℕ} {ls′ hs′ : List ℕ} → k < n → ChainGives x t ls hs ls′ hs′ k b r → m ≡ getD t (k + 3 + 2) 0 → Threads x t ls′ hs′ i first n b₀ m r
+    pub thread-less : {m : ℕ} → k < n → m ≡ getD t (k + 3 + 2) 0 → n - m < n - k
+    thread-less l q = walk-less (c .sweeps .walk) l q
+
+    pub thread-told : n ≤ k → PartTells 1 6 own6 x t i b₀ b
+    thread-told h = sweep-told (c .sweeps) h
+
+    pub thread-again : {r m : ℕ} {ls′ hs′ : List ℕ} → k < n → ChainGives x t ls hs ls′ hs′ k b r → m ≡ getD t (k + 3 + 2) 0 → Threads x t ls₀ ls′ hs′ i first n b₀ m r
     thread-again {m = m} l g q =
         let h : k + 3 ≤ m = omega (arith, turn (c .sweeps) l .word .next) in
         record {
-          sweeps = again (c .sweeps) l q (λ ms f e z. (onward x t k (earlier [] ms) (λ y. g .is y _ z), g .more _ m z h));
-          few = c .few;
-          links = g .links;
+          sweeps = again (c .sweeps) l q (λ ms f e z. (onward x t k (earlier [] ms) (λ y. g .is (not-zero y) _ z), g .more _ m z h));
+          room = rw (g .links) (c .room);
+          lent = lent-on (c .lent) (g .links);
           heads = g .heads;
         }
 
 -- the same loop by a trie, which has c entries
 pub record Enters (x t q : List ℕ) (c i first n b₀ k b : ℕ) : Type 0 where
-  pub sweeps : Sweeps Always x t i first n b₀ k b (Entries x t q c)
+  pub sweeps : Sweeps (Sure 1) x t i first n b₀ k b (Entries x t q c)
   pub room : length q ≡ 327680
   later : 3 ≤ k
   some : 0 < c
@@ -308,7 +316,7 @@ pub record Enters (x t q : List ℕ) (c i first n b₀ k b : ℕ) : Type 0 where
 module _ {x t : List ℕ} {i : ℕ} where
   pub enter-begin : {p n : ℕ} {q : List ℕ} (b : ℕ) → AnyPart x t i → p ≡ getD t i 0 → getD x p 0 ≡ 123 → n ≡ getD t (i + 2) 0 → Emptied q → Enters x t q 1 i (i + 3) n b (i + 3) b
   enter-begin {q = q} b a y h o z =
-      record { sweeps = begin Always b a y h o (entries-begin x t q (z .value)); room = z .room; later = omega arith; some = omega arith; few = omega arith }
+      record { sweeps = begin (Sure 1) b a y h o (entries-begin x t q (z .value)); room = z .room; later = omega arith; some = omega arith; few = omega arith }
 
   module _ {first n b₀ k b c : ℕ} {q : List ℕ} (s : Enters x t q c i first n b₀ k b) where
     pub enter-name : k < n → EntryAt x t q c k
@@ -329,18 +337,22 @@ module _ {x t : List ℕ} {i : ℕ} where
     enter-again {m = m} l g z y =
         let o = g .told z in
         record {
-          sweeps = again (s .sweeps) l y (λ ms f e w. (λ v. (tt, o .is _ w), o .more _ w));
+          sweeps = again (s .sweeps) l y (λ ms f e w. (onward x t k (earlier [] ms) (λ v. o .is _ w), o .more _ w));
           room = g .room;
           later = omega (arith, turn (s .sweeps) l .word .next);
           some = omega arith;
           few = o .few;
         }
 
-    pub enter-done : n ≤ k → PartGives 6 own6 x t i b₀ b
-    enter-done h = sweep-done (s .sweeps) h
+    pub enter-done : n ≤ k → PartTells 1 6 own6 x t i b₀ b
+    enter-done h = sweep-told (s .sweeps) h
 
     pub enter-room : length q ≡ 327680
     enter-room = s .room
+
+-- a trie that has no room leaves it to another way
+pub enter-full : {x t : List ℕ} (i b : ℕ) → PartTells 1 6 own6 x t i b 0
+enter-full i b = record { told = λ s. absurd (omega (arith, s refl)) }
 
 pub ruleset names = (
   needs,
@@ -373,20 +385,20 @@ pub ruleset sweeps = (
   any-third,
   any-onward,
   any-inside,
-  repeated-none,
   repeated-told,
   sweep-begin,
   sweep-name,
   sweep-long,
+  lent-begin,
+  lent-on,
   sweep-seen,
-  sweep-again,
   sweep-onward,
-  sweep-done,
   sweep-told,
+  sweep-chained,
   walk-onward,
   walk-less,
 )
 
-pub ruleset threads = (needs, any-third, thread-begin, thread-name, thread-again, sweep-told, walk-less)
+pub ruleset threads = (needs, any-third, any-onward, thread-begin, thread-name, thread-less, thread-again, thread-told)
 
-pub ruleset enters = (needs, any-first, any-third, any-onward, any-inside, repeated-none, enter-begin, enter-name, enter-again, enter-done, enter-room, walk-less)
+pub ruleset enters = (needs, any-first, any-third, any-onward, any-inside, repeated-told, enter-begin, enter-name, enter-again, enter-done, enter-full, enter-room, walk-less)

@@ -2,7 +2,7 @@
 use mathlib.Core.Path.{_≡_}
 use mathlib.Core.Bool.{Bool, cond}
 use mathlib.Core.List.{List, [], _∷_, map}
-use Prim.Native.Nat.{ℕ, _+_, _/_, _≤_, _<_}
+use Prim.Native.Nat.{ℕ, _+_, _*_, _/_, _≤_, _<_}
 use lib.ListN.{length, getD}
 use lib.Dec.{eqb}
 use Rattle.nodes.specs.Faults.{fault, least}
@@ -21,7 +21,7 @@ kept c (u ∷ us) = cond (eqb (chainOf u) c) (u ∷ kept c us) (kept c us)
 
 -- a name at the node e, whose link in ls names an earlier node, or none by 0
 pub record Link (x t ls : List ℕ) (e : ℕ) : Type 0 where
-  pub room : e < 98352
+  pub room : e / 3 < length ls
   pub back : getD ls (e / 3) 0 < e
   pub raw : List ℕ
   pub string : StringAt x t e raw
@@ -58,20 +58,22 @@ pub record ChainAt (x t ls hs : List ℕ) (k : ℕ) : Type 0 where
   pub raw : List ℕ
   pub string : StringAt x t k raw
   pub short : length x ≤ 65535
-  pub inside : k < 98352
-  pub links : length ls ≡ 32784
+  pub inside : k / 3 < length ls
+  pub low : k < 98352
+  pub value : k + 3 + 2 < length t
   pub heads : length hs ≡ 4096
 
 -- r is the least of b and of the fault of the name at the node k, if it is among those of the chains, or 0, which tells nothing; afterwards it is one of them
 pub record ChainGives (x t ls hs ls′ hs′ : List ℕ) (k b r : ℕ) : Type 0 where
   pub is : (r ≡ 0 → ⊥) → (us : List (List ℕ)) → Chains x t ls hs k us → r ≡ least b (map (fault 6) (cond (among us (textAt x t k)) (getD t k 0 ∷ []) []))
   pub more : (us : List (List ℕ)) (m : ℕ) → Chains x t ls hs k us → k + 3 ≤ m → Chains x t ls′ hs′ m (textAt x t k ∷ us)
-  pub links : length ls′ ≡ 32784
+  pub value : k + 3 + 2 < length t
+  pub links : length ls′ ≡ length ls
   pub heads : length hs′ ≡ 4096
 
 -- an object at the node i, whose nodes have a link each
 pub record LongObject (x t ls : List ℕ) (i : ℕ) : Type 0 where
   pub some : AnyPart x t i
   pub brace : getD x (getD t i 0) 0 ≡ 123
-  pub ends : getD t (i + 2) 0 ≤ 98352
-  pub links : length ls ≡ 32784
+  pub ends : getD t (i + 2) 0 ≤ length ls * 3
+  pub few : length ls ≤ 32784

@@ -9,8 +9,9 @@ use Rattle.json.specs.Tree.{Members, member}
 use Rattle.json.specs.Tree as tree
 use Rattle.json.specs.Table.{widths, Fields}
 use Rattle.nodes.specs.Faults.{fault, least}
+use Rattle.nodes.specs.Says.{Gives}
 use Rattle.nodes.specs.Laws.{StringAt, fieldsOf}
-use Rattle.everywhere.specs.Everywhere.{among, repeated}
+use Rattle.everywhere.specs.Everywhere.{among, repeated, rule6}
 use Rattle.everywhere.specs.Parts.{Part, value, name, PartGives, textAt}
 
 -- the places at which a part breaks rule 6 itself, without what it holds
@@ -19,9 +20,17 @@ unfolding repeated fieldsOf
 own6 (value v) = repeated [] (fieldsOf v)
 own6 (name k) = []
 
--- r is the least of b and of the faults of the part that stands at the node i, unless r is 0, which tells nothing
-pub record PartTells (rule : ℕ) (own : Part → List ℕ) (x t : List ℕ) (i b r : ℕ) : Type 0 where
-  pub told : (r ≡ 0 → ⊥) → PartGives rule own x t i b r
+-- an answer 0 leaves it to another way, unless there are no others
+abbrev pub Sure : ℕ → ℕ → Type 0
+Sure others r = r ≡ 0 → others ≡ 0
+
+-- r is the least of b and of the faults of the part that stands at the node i, if that is sure
+pub record PartTells (others rule : ℕ) (own : Part → List ℕ) (x t : List ℕ) (i b r : ℕ) : Type 0 where
+  pub told : Sure others r → PartGives rule own x t i b r
+
+-- the same of rule 6 in the value that stands at the node 0
+pub record TreeTells (others : ℕ) (x t : List ℕ) (b r : ℕ) : Type 0 where
+  pub told : Sure others r → Gives (λ v. least b (map (fault 6) (rule6 v))) x t 0 r
 
 -- the names of some members, decoded, the last first, before the texts `last`
 unfoldable pub earlier : List (List ℕ) → Members → List (List ℕ)

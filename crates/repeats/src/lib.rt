@@ -9,8 +9,8 @@ ghost use Rattle.trie.specs.Trie.{Walks};
 ghost use Rattle.nodes.specs.Faults.{fault, least};
 ghost use Rattle.nodes.specs.Says.{Root, Gives};
 ghost use Rattle.everywhere.specs.Everywhere.{rule6};
-ghost use Rattle.everywhere.specs.Parts.{AnyPart, PartGives, textAt};
-ghost use Rattle.repeats.specs.Names.{PartTells, own6, NameNode, Repeats, RepeatGives};
+ghost use Rattle.everywhere.specs.Parts.{AnyPart, textAt};
+ghost use Rattle.repeats.specs.Names.{PartTells, TreeTells, own6, NameNode, Repeats, RepeatGives};
 ghost use Rattle.repeats.specs.Chains.{ChainNode, Searched, ChainAt, ChainGives, LongObject};
 ghost use Rattle.repeats.specs.Entries.{NameText, ValueTells, EntryFault, EntryAt, EntryGives};
 
@@ -67,15 +67,15 @@ fn repeat_at(text: &[u8], table: &[u32], first: usize, k: usize, best: u32) -> u
 }
 
 // The name before the one at node e in its chain, or 0 if there is none.
-fn link(links: &[u32; 32784], e: usize) -> usize
-    requires { ⌜ e < 98352 ⌝ }
+fn link(links: &[u32], e: usize) -> usize
+    requires { ⌜ e / 3 < length (now links) ⌝ }
     ensures { λ r. ⌜ r ≡ getD (now (links .entry)) (e / 3) 0 ⌝ }
 {
     wide(links[e / 3])
 }
 
 // Does the name at node k repeat one of the chain that begins with the name at node `head`? The first 16 are compared.
-fn in_chain(text: &[u8], table: &[u32], links: &[u32; 32784], head: usize, k: usize) -> Search
+fn in_chain(text: &[u8], table: &[u32], links: &[u32], head: usize, k: usize) -> Search
     requires { ⌜ ChainNode (now text) (now table) (now links) head k ⌝ }
     ensures { λ r. ⌜ Searched (now (text .entry)) (now (table .entry)) (now (links .entry)) head k r ⌝ }
 {
@@ -102,7 +102,7 @@ fn in_chain(text: &[u8], table: &[u32], links: &[u32; 32784], head: usize, k: us
 fn chain_at(
     text: &[u8],
     table: &[u32],
-    links: &mut [u32; 32784],
+    links: &mut [u32],
     heads: &mut [u32; 4096],
     k: usize,
     best: u32,
@@ -129,9 +129,9 @@ fn chain_at(
 
 // Rule 6 in the object at node i, by chains of its names: a name is compared with those of its own chain alone.
 // 0 if a chain is too long; 0 stays the least.
-fn chained_in(text: &[u8], table: &[u32], links: &mut [u32; 32784], i: usize, best: u32) -> u32
+fn chained_in(text: &[u8], table: &[u32], links: &mut [u32], i: usize, best: u32) -> u32
     requires { ⌜ LongObject (now text) (now table) (now links) i ⌝ }
-    ensures { λ r. ⌜ (PartTells 6 own6 (now (text .entry)) (now (table .entry)) i best r) × (length (now (links .exit)) ≡ 32784) ⌝ }
+    ensures { λ r. ⌜ PartTells 1 6 own6 (now (text .entry)) (now (table .entry)) i best r ⌝ }
 {
     let n = nodes::next(table, i);
     let first = i + 3;
@@ -147,9 +147,9 @@ fn chained_in(text: &[u8], table: &[u32], links: &mut [u32; 32784], i: usize, be
 
 // Rule 6 at a node, if an object stands there: among its names. The first 16 are compared with all before them;
 // if there are more, all names go into chains, if there is a link for each node. 0 if a chain is too long.
-fn repeated_in(text: &[u8], table: &[u32], links: &mut [u32; 32784], i: usize, best: u32) -> u32
-    requires { ⌜ (AnyPart (now text) (now table) i) × (length (now links) ≡ 32784) ⌝ }
-    ensures { λ r. ⌜ (PartTells 6 own6 (now (text .entry)) (now (table .entry)) i best r) × (length (now (links .exit)) ≡ 32784) ⌝ }
+fn repeated_in(text: &[u8], table: &[u32], links: &mut [u32], i: usize, best: u32) -> u32
+    requires { ⌜ (AnyPart (now text) (now table) i) × (length (now links) ≤ 32784) ⌝ }
+    ensures { λ r. ⌜ PartTells (length (now (links .entry))) 6 own6 (now (text .entry)) (now (table .entry)) i best r ⌝ }
 {
     let at = nodes::start(table, i);
     if text[at] != b'{' {
@@ -162,32 +162,12 @@ fn repeated_in(text: &[u8], table: &[u32], links: &mut [u32; 32784], i: usize, b
     let mut k = first;
     while k < n {
         if seen == 16 {
-            if n <= 98352 {
+            if n <= links.len() * 3 {
                 return chained_in(text, table, links, i, best);
             }
         }
         least = repeat_at(text, table, first, k, least);
         seen += 1;
-        k = nodes::next(table, k + 3);
-    }
-    least
-}
-
-// Rule 6 at a node, if an object stands there: each of its names is compared with all before it.
-fn compared_in(text: &[u8], table: &[u32], i: usize, best: u32) -> u32
-    requires { ⌜ AnyPart (now text) (now table) i ⌝ }
-    ensures { λ r. ⌜ PartGives 6 own6 (now (text .entry)) (now (table .entry)) i best r ⌝ }
-{
-    let at = nodes::start(table, i);
-    if text[at] != b'{' {
-        return best;
-    }
-    let n = nodes::next(table, i);
-    let first = i + 3;
-    let mut least = best;
-    let mut k = first;
-    while k < n {
-        least = repeat_at(text, table, first, k, least);
         k = nodes::next(table, k + 3);
     }
     least
@@ -284,10 +264,10 @@ fn entry_at(
     entry_fault(text, table, v, k, c, best)
 }
 
-// Rule 6 at a node, if an object stands there, by a trie of its names.
+// Rule 6 at a node, if an object stands there, by a trie of its names. 0 if the trie has no room.
 fn entered_in(text: &[u8], table: &[u32], trie: &mut [u16; 327680], i: usize, best: u32) -> u32
     requires { ⌜ (AnyPart (now text) (now table) i) × (length (now trie) ≡ 327680) ⌝ }
-    ensures { λ r. ⌜ (PartGives 6 own6 (now (text .entry)) (now (table .entry)) i best r) × (length (now (trie .exit)) ≡ 327680) ⌝ }
+    ensures { λ r. ⌜ (PartTells 1 6 own6 (now (text .entry)) (now (table .entry)) i best r) × (length (now (trie .exit)) ≡ 327680) ⌝ }
 {
     let at = nodes::start(table, i);
     if text[at] != b'{' {
@@ -302,7 +282,7 @@ fn entered_in(text: &[u8], table: &[u32], trie: &mut [u16; 327680], i: usize, be
         let turn = entry_at(text, table, trie, count, k, least);
         count = turn.count;
         if count == 0 {
-            return compared_in(text, table, i, best);
+            return 0;
         }
         least = turn.least;
         k = nodes::next(table, k + 3);
@@ -310,10 +290,10 @@ fn entered_in(text: &[u8], table: &[u32], trie: &mut [u16; 327680], i: usize, be
     least
 }
 
-// Rule 6 in the tree whose table has n words, by tries: the time grows with the bytes of the names, whatever they are.
+// Rule 6 in the tree whose table has n words, by tries: the time grows with the bytes of the names, whatever they are. 0 if a trie has no room.
 fn entered(text: &[u8], table: &[u32], n: usize, best: u32) -> u32
     requires { ⌜ Root (now text) (now table) n ⌝ }
-    ensures { λ r. ⌜ Gives (λ v. least best (map (fault 6) (rule6 v))) (now (text .entry)) (now (table .entry)) 0 r ⌝ }
+    ensures { λ r. ⌜ TreeTells 1 (now (text .entry)) (now (table .entry)) best r ⌝ }
 {
     let mut trie: [u16; 327680] = [0; 327680];
     let mut least = best;
@@ -325,20 +305,86 @@ fn entered(text: &[u8], table: &[u32], n: usize, best: u32) -> u32
     least
 }
 
-// Rule 6 in the tree whose table has n words: in any object. Where a chain is too long, all is done again by tries.
+// Rule 6 in the tree whose table has n words, with links for the names. 0 if a chain is too long, which no chain is without links.
+fn pass(text: &[u8], table: &[u32], links: &mut [u32], n: usize, best: u32) -> u32
+    requires { ⌜ (Root (now text) (now table) n) × (length (now links) ≤ 32784) ⌝ }
+    ensures { λ r. ⌜ TreeTells (length (now (links .entry))) (now (text .entry)) (now (table .entry)) best r ⌝ }
+{
+    let mut least = best;
+    let mut k = 0;
+    while k < n {
+        least = repeated_in(text, table, links, k, least);
+        k += 3;
+    }
+    least
+}
+
+// The same where a chain is too long: by tries, and by comparing all names if there is no room for these.
+fn again(text: &[u8], table: &[u32], n: usize, best: u32) -> u32
+    requires { ⌜ Root (now text) (now table) n ⌝ }
+    ensures { λ r. ⌜ Gives (λ v. least best (map (fault 6) (rule6 v))) (now (text .entry)) (now (table .entry)) 0 r ⌝ }
+{
+    let r = entered(text, table, n, best);
+    if r != 0 {
+        return r;
+    }
+    let mut space: [u32; 1] = [0; 1];
+    let links: &mut [u32] = &mut space;
+    pass(text, table, &mut links[0..0], n, best)
+}
+
+// Rule 6 in a tree of at most 6,195 words, with a link for each node. Few links are cleared sooner.
+fn repeated_small(text: &[u8], table: &[u32], n: usize, best: u32) -> u32
+    requires { ⌜ Root (now text) (now table) n ⌝ }
+    ensures { λ r. ⌜ Gives (λ v. least best (map (fault 6) (rule6 v))) (now (text .entry)) (now (table .entry)) 0 r ⌝ }
+{
+    let mut space: [u32; 2065] = [0; 2065];
+    let links: &mut [u32] = &mut space;
+    let r = pass(text, table, links, n, best);
+    if r == 0 {
+        return again(text, table, n, best);
+    }
+    r
+}
+
+// The same of at most 49,152 words.
+fn repeated_middle(text: &[u8], table: &[u32], n: usize, best: u32) -> u32
+    requires { ⌜ Root (now text) (now table) n ⌝ }
+    ensures { λ r. ⌜ Gives (λ v. least best (map (fault 6) (rule6 v))) (now (text .entry)) (now (table .entry)) 0 r ⌝ }
+{
+    let mut space: [u32; 16384] = [0; 16384];
+    let links: &mut [u32] = &mut space;
+    let r = pass(text, table, links, n, best);
+    if r == 0 {
+        return again(text, table, n, best);
+    }
+    r
+}
+
+// The same of at most 98,352 words.
+fn repeated_large(text: &[u8], table: &[u32], n: usize, best: u32) -> u32
+    requires { ⌜ Root (now text) (now table) n ⌝ }
+    ensures { λ r. ⌜ Gives (λ v. least best (map (fault 6) (rule6 v))) (now (text .entry)) (now (table .entry)) 0 r ⌝ }
+{
+    let mut space: [u32; 32784] = [0; 32784];
+    let links: &mut [u32] = &mut space;
+    let r = pass(text, table, links, n, best);
+    if r == 0 {
+        return again(text, table, n, best);
+    }
+    r
+}
+
+// Rule 6 in the tree whose table has n words: in any object.
 pub fn repeated(text: &[u8], table: &[u32], n: usize, best: u32) -> u32
     requires { ⌜ Root (now text) (now table) n ⌝ }
     ensures { λ r. ⌜ Gives (λ v. least best (map (fault 6) (rule6 v))) (now (text .entry)) (now (table .entry)) 0 r ⌝ }
 {
-    let mut links: [u32; 32784] = [0; 32784];
-    let mut least = best;
-    let mut k = 0;
-    while k < n {
-        least = repeated_in(text, table, &mut links, k, least);
-        k += 3;
+    if n <= 6195 {
+        return repeated_small(text, table, n, best);
     }
-    if least == 0 {
-        return entered(text, table, n, best);
+    if n <= 49152 {
+        return repeated_middle(text, table, n, best);
     }
-    least
+    repeated_large(text, table, n, best)
 }

@@ -1,7 +1,7 @@
 -- A law of the trie: a text leads to one entry.
 use Prim.Native.Nat.{ℕ}
 use mathlib.Core.Path.{_≡_, refl, sym, ap, _∙_}
-use mathlib.Core.List.{List, [], _∷_}
+use mathlib.Core.List.{List}
 use lib.ListN.{getD}
 use Rattle.trie.specs.Trie.{Meets, none, here, next, Child, Reaches, stop, on}
 

@@ -1,10 +1,10 @@
 // A trie of texts in a flat array. An entry has five words: three slots, then the byte that leads to it, and a value of the caller's.
 // A slot holds an entry, or 0: the first slot the root of the tree of its children, the others those to its left and right in the tree that it is in.
 // Entry 0 is that of the empty text. A `Place` is an entry and the count of the entries; its count is 0 if the way was given up.
-ghost use Prim.Native.Nat.{ℕ, _+_, _*_, _%_, _≤_, _<_};
+ghost use Prim.Native.Nat.{_+_, _*_, _%_, _≤_, _<_};
 ghost use mathlib.Core.Path.{_≡_};
 ghost use mathlib.Core.List.{[], _∷_};
-ghost use lib.ListN.{length, getD};
+ghost use lib.ListN.{length};
 ghost use Rattle.strings.specs.Spans.{Span, decodeAt, ahead};
 ghost use Rattle.trie.specs.Trie.{valueOf, Sought, Grown, Walks, Emptied, Puts};
 

@@ -29,7 +29,6 @@ entered-in-spec =
     (λ c. search enters)
     (λ c. search enters)
     (λ c κs. search enters)
-    (λ c κs. search enters)
     (λ c. search enters)
     add-next
     (λ c κs. walk-room (c .before .before .before .before .loop .inv .sweeps .walk) (c .before .before .before .loop-test .taken))

@@ -1,16 +1,16 @@
 -- `repeats::repeated_in` meets its contract.
 use Prim.Native.Nat.{_-_, _≤_}
-use mathlib.Core.Path.{_≡_}
 use native.Mathlib.Omega.{arith}
-use lib.ListN.{length}
 use Rattle.nodes.specs.Reads.{walk-room}
-use Rattle.repeats.proofs.Passes.{NotZero}
+use lib.ListN.{length}
+use Rattle.repeats.specs.Names.{Sure}
+use Rattle.repeats.proofs.Passes.{Lent}
 use Rattle.repeats.proofs.Rule6.{Sweeps, Any, sweeps}
 use Rattle.repeats.proofs.repeated_in.Statement.{statement}
 use Rattle.repeats.proofs.repeated_in.Tie as tie
 
 abbrev Inv-loop : tie.InvT-loop
-Inv-loop text table links₀ i best at n first least₀ seen₀ k₀ links least seen k = (Sweeps NotZero text table i first n best k least Any) × (length links ≡ 32784) × (seen ≤ k)
+Inv-loop text table links₀ i best at n first least₀ seen₀ k₀ links least seen k = (Sweeps (Sure (length links₀)) text table i first n best k least Any) × (Lent links₀ links) × (seen ≤ k)
 
 abbrev μ-loop : tie.MeasureT-loop
 μ-loop text table links₀ i best at n first least₀ seen₀ k₀ links least seen k = n - k
@@ -30,12 +30,15 @@ repeated-in-spec =
     (λ c κs. search sweeps)
     (λ c. search sweeps)
     (λ c. search sweeps)
+    (λ c. search sweeps)
     (λ c κs. search sweeps)
+    (λ c. search sweeps)
     (λ c. search sweeps)
     (λ c κs. search sweeps)
     add-seen
     (λ c. search sweeps)
     (λ c κs. walk-room (c .before .before .before .loop .inv .0 .walk) (c .before .before .loop-test .taken))
+    (λ c. search sweeps)
     (λ c. search sweeps)
     (λ c. search sweeps)
     (λ c. search sweeps))
