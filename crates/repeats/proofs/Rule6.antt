@@ -350,9 +350,9 @@ module _ {x t : List ℕ} {i : ℕ} where
     pub enter-room : length q ≡ 327680
     enter-room = s .room
 
--- a trie that has no room leaves it to another way
-pub enter-full : {x t : List ℕ} (i b : ℕ) → PartTells 1 6 own6 x t i b 0
-enter-full i b = record { told = λ s. absurd (omega (arith, s refl)) }
+-- 0 leaves it to another way
+pub left-open : {x t : List ℕ} (i b : ℕ) → PartTells 1 6 own6 x t i b 0
+left-open i b = record { told = λ s. absurd (omega (arith, s refl)) }
 
 pub ruleset names = (
   needs,
@@ -399,6 +399,6 @@ pub ruleset sweeps = (
   walk-less,
 )
 
-pub ruleset threads = (needs, any-third, any-onward, thread-begin, thread-name, thread-less, thread-again, thread-told)
+pub ruleset threads = (needs, left-open, any-third, any-onward, thread-begin, thread-name, thread-less, thread-again, thread-told)
 
-pub ruleset enters = (needs, any-first, any-third, any-onward, any-inside, repeated-told, enter-begin, enter-name, enter-again, enter-done, enter-full, enter-room, walk-less)
+pub ruleset enters = (needs, any-first, any-third, any-onward, any-inside, repeated-told, enter-begin, enter-name, enter-again, enter-done, left-open, enter-room, walk-less)

@@ -128,7 +128,7 @@ fn chain_at(
 }
 
 // Rule 6 in the object at node i, by chains of its names: a name is compared with those of its own chain alone.
-// 0 if a chain is too long; 0 stays the least.
+// 0 if a chain is too long.
 fn chained_in(text: &[u8], table: &[u32], links: &mut [u32], i: usize, best: u32) -> u32
     requires { ⌜ LongObject (now text) (now table) (now links) i ⌝ }
     ensures { λ r. ⌜ PartTells 1 6 own6 (now (text .entry)) (now (table .entry)) i best r ⌝ }
@@ -140,6 +140,9 @@ fn chained_in(text: &[u8], table: &[u32], links: &mut [u32], i: usize, best: u32
     let mut k = first;
     while k < n {
         least = chain_at(text, table, links, &mut heads, k, least);
+        if least == 0 {
+            return 0;
+        }
         k = nodes::next(table, k + 3);
     }
     least
