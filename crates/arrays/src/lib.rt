@@ -1,7 +1,6 @@
 // Writes the numbers and the nested arrays of an accepted text to a lent sheet.
 // If they do not fit, a part of them may be written, and the cursor is then past the sheet.
 // Each function takes the cursor at which it is to write and gives the one after.
-ghost use Prim.Native.Nat.{ℕ};
 ghost use Rattle.utf8.specs.Bytes.{le};
 ghost use Rattle.model.specs.Code.{signed, concatMap};
 ghost use Rattle.model.specs.Model.{layThree, layDecimal, layNest, layValue, layValues};

@@ -78,9 +78,6 @@ module _ {x t offsets : List ℕ} where
   pub object-text : {k : ℕ} → Objects x t offsets → k < length offsets → TextNode x t (getD offsets k 0)
   object-text s l = of-member (object-node s l .stands)
 
-  pub object-onward : {k : ℕ} → Objects x t offsets → k < length offsets → getD offsets k 0 + 3 + 2 < length t
-  object-onward s l = words (object-node s l .stands .value) .room
-
   pub object-few : {k : ℕ} → Objects x t offsets → k < length offsets → k < 1024
   object-few s l = omega (arith, s .stand .few)
 

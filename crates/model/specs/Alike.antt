@@ -6,7 +6,6 @@ use mathlib.Core.Option as option
 use Prim.Native.Nat.{ℕ, zero, suc, _-_}
 use Prim.Native.String.{String}
 use lib.ListN.{length, getD}
-use lib.IntN.{ℤ}
 use Rattle.words.specs.Words.{depth, valuesDepth}
 use Rattle.model.specs.Good.{Both}
 use Rattle.words.specs.Words.{codeOf, geometryWords, objectWords}

@@ -1,9 +1,7 @@
 -- What the fields of a sheet can hold.
-use mathlib.Core.List.{[]}
 use mathlib.Core.Option.{Option, none, some}
 use Prim.Native.Nat.{ℕ, zero, suc, _^_, _<_}
 use lib.ListN.{length}
-use lib.IntN.{ℤ}
 use Rattle.model.specs.Code.{All, Holds}
 use Rattle.model.specs.Good.{Shaped, Leaves, AllThree, GoodLod}
 use Rattle.numerals.specs.Numerals.{Decimal}

@@ -1,6 +1,6 @@
 // JSON numerals (RFC 8259, section 6) by their value: integers, and pairs (m, e) that mean m times ten to the e.
 // A numeral is given by the text and two offsets, `at` of its first byte and `end` past its last.
-ghost use Prim.Native.Nat.{ℕ, _+_, _-_, _*_, _^_, _≤_, _<_, min};
+ghost use Prim.Native.Nat.{_+_, _-_, _*_, _^_, _≤_, _<_, min};
 ghost use mathlib.Core.Bool.{true, cond};
 ghost use mathlib.Core.Path.{_≡_};
 ghost use lib.ListN.{length};

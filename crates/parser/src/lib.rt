@@ -1,6 +1,5 @@
 // JSON texts (RFC 8259): a text is read once, and the node table of its tree is written.
 ghost use Prim.Native.Nat.{_+_, _≤_};
-ghost use mathlib.Core.Path.{_≡_};
 ghost use lib.ListN.{length};
 ghost use Rattle.json.specs.Machine.{isBlank};
 ghost use Rattle.json.specs.Machine.Mode.{want, first, name0};

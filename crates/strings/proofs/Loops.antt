@@ -1,21 +1,18 @@
 -- The turns of the loops.
-use Prim.Native.Nat.{ℕ, zero, suc, _+_, _≤_, _<_}
+use Prim.Native.Nat.{ℕ, suc, _+_, _≤_, _<_}
 use native.Mathlib.Omega.{arith}
 use native.Mathlib.Numerals.{add-one}
 use mathlib.Core.Path.{_≡_, refl, ap, sym, _∙_}
-use mathlib.Core.Bool.{Bool, true, false}
 use mathlib.Core.List.{List, [], _∷_, _++_, append-assoc, append-nil}
-use lib.ListN.{length, getD, take, drop, set, length-append, length-set, drop-of-length-le, take-append-drop}
-use lib.Seq.{drop-cons, take-suc-set, drop-set-lt}
-use lib.Dec.{eqb, eqb·suc-suc}
-use borrow.Author.Tests.{eq-eqb, ne-eqb}
-use Rattle.utf8.specs.Utf8.{encode, same}
-use Rattle.strings.specs.Laws.{at-plain, step-done, step-byte, ahead-start}
+use lib.ListN.{length, getD, take, drop, set, length-append, length-set, take-append-drop}
+use lib.Seq.{take-suc-set, drop-set-lt}
+use Rattle.utf8.specs.Utf8.{encode}
+use Rattle.strings.specs.Laws.{at-plain, step-byte, ahead-start}
 use Rattle.strings.specs.Spans.{Span, decodeAt, unpairedAt, ahead, Steps, Copied, firstOf}
 use Rattle.strings.specs.Parts.{Escapes}
 use Rattle.strings.specs.declared.Cursor.{Cursor}
 use Rattle.strings.specs.declared.Step.{Step}
-use Rattle.strings.specs.declared.Step.the-variants.{Byte, Done}
+use Rattle.strings.specs.declared.Step.the-variants.{Byte}
 use Rattle.strings.specs.declared.Escape.{Escape}
 use Rattle.strings.specs.declared.Escape.the-variants.{Cut, Short, Long}
 use Rattle.strings.specs.declared.Found.{Found}

@@ -1,6 +1,6 @@
 -- Laws of decoding: where a string stands does not change what it stands for; it stands for no more bytes than it has; strings that begin apart do not
 -- stand for the same bytes; the places of its unpaired surrogates are in increasing order, and there are none where no byte is a backslash.
-use Prim.Native.Nat.{ℕ, zero, suc, _+_, _-_, _*_, _/_, _≤_, _<_}
+use Prim.Native.Nat.{ℕ, zero, suc, _+_, _-_, _*_, _≤_, _<_}
 use native.Mathlib.Numerals.{add-one}
 use native.Mathlib.Omega.{arith}
 use mathlib.Core.Path.{_≡_, refl, ap, sym, _∙_, subst}
