@@ -167,8 +167,9 @@ module _ {x t ls hs : List ℕ} {k c : ℕ} {us : List (List ℕ)} (s : Chains x
 
 -- the name at the node k, and what the code finds of it
 module _ {x t ls hs : List ℕ} {k : ℕ} (d : ChainAt x t ls hs k) where
-  pub name-node : {c h : ℕ} → h ≡ getD hs c 0 → c < 4096 → ChainNode x t ls h k
-  name-node {c} {h} q l = record { texts = kept c (d .texts); chain = rw q (d .chains .chain c l); raw = d .raw; string = d .string }
+  pub name-node : (c h : ℕ) → h ≡ getD hs c 0 → c < 4096 → ChainNode x t (set ls (k / 3) (getD hs c 0)) h k
+  name-node c h q l =
+      record { texts = kept c (d .texts); chain = rw q (chained-set k (getD hs c 0) (d .chains .chain c l) (d .chains .below c l)); raw = d .raw; string = d .string }
 
   module _ {p q c : ℕ} (y : p ≡ getD t k 0) (z : q ≡ getD t (k + 1) 0) (w : c ≡ chainOf (decodeAt x (p + 1) (q - 1))) (l : c < 4096) where
     goes : c ≡ chainOf (textAt x t k)
@@ -190,9 +191,9 @@ module _ {x t ls hs : List ℕ} {k : ℕ} (d : ChainAt x t ls hs k) where
     pub chain-long : (b : ℕ) → ChainGives x t ls hs (set ls (k / 3) (getD hs c 0)) (set hs c k) k b 0
     chain-long b = gives (λ n. absurd (n refl))
 
-    module _ {h : ℕ} {f : Bool} (o : h ≡ getD hs c 0) (e : Search) (g : Searched x t ls h k e) (v : e ≡ Ended f) where
+    module _ {h : ℕ} {f : Bool} (o : h ≡ getD hs c 0) (e : Search) (g : Searched x t (set ls (k / 3) (getD hs c 0)) h k e) (v : e ≡ Ended f) where
       found : (us : List (List ℕ)) → Chains x t ls hs k us → among us (textAt x t k) ≡ f
-      found us s = sym (g .ended f v .is (kept c us) (rw o (s .chain c l)) ∙ kept-among c (textAt x t k) goes us)
+      found us s = sym (g .ended f v .is (kept c us) (rw o (chained-set k (getD hs c 0) (s .chain c l) (s .below c l))) ∙ kept-among c (textAt x t k) goes us)
 
       pub chain-none : (b : ℕ) → not f ≡ true → ChainGives x t ls hs (set ls (k / 3) (getD hs c 0)) (set hs c k) k b b
       unfolding least

@@ -115,9 +115,9 @@ fn chain_at(
     let to = nodes::end(table, k);
     let c = everywhere::chain_of(text, from + 1, to - 1);
     let head = heads[c];
-    let s = in_chain(text, table, links, wide(head), k);
     links[k / 3] = head;
     heads[c] = k as u32;
+    let s = in_chain(text, table, links, wide(head), k);
     let Search::Ended(found) = s else {
         return 0;
     };
