@@ -13,7 +13,8 @@ use borrow.Author.Needs.{needs}
 use borrow.Author.Tests.{eqb-true, eqb-false, not-true, not-false}
 use Rattle.utf8.specs.Utf8.{same}
 use Rattle.utf8.specs.Laws.{clash}
-use Rattle.strings.specs.Spans.{Span, decodeAt}
+use Rattle.strings.specs.Spans.{Span, decodeAt, beginApart}
+use Rattle.strings.specs.Laws.{apart-differ}
 use Rattle.nodes.specs.Faults.{fault, least}
 use Rattle.everywhere.specs.Everywhere.{among}
 use Rattle.nodes.specs.Laws.{StringAt}
@@ -112,6 +113,12 @@ module _ {x t ls : List ℕ} {head k : ℕ} where
 
         pub follow-again : {m : ℕ} → b ≡ false → m ≡ getD ls (e / 3) 0 → Follows x t ls head k m
         follow-again h o = record { node = c .node; left = λ us z. let u = turn (c .left us z) n in record { texts = u .texts; chain = rw o (u .chain); holds = u .holds ∙ rw (← tested, h) } }
+
+      -- names that begin apart are not the same
+      pub follow-apart : {p q p′ q′ m : ℕ} {b : Bool} → p ≡ getD t e 0 → q ≡ getD t (e + 1) 0 → p′ ≡ getD t k 0 → q′ ≡ getD t (k + 1) 0
+          → b ≡ beginApart x (p + 1) (q - 1) (p′ + 1) (q′ - 1) → not b ≡ false → m ≡ getD ls (e / 3) 0 → Follows x t ls head k m
+      follow-apart {b = b} w y w′ y′ s h o =
+          follow-again w y w′ y′ refl (apart-differ (string-span (here .string) w y) (string-span (c .node .string) w′ y′) (sym s ∙ not-false b h)) o
 
     pub follow-done : e ≡ 0 → Searched x t ls head k (Ended false)
     follow-done z = search-told (record { is = λ us h. sym (finished (c .left us h) z) })

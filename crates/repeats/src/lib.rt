@@ -90,8 +90,10 @@ fn in_chain(text: &[u8], table: &[u32], links: &[u32], head: usize, k: usize) ->
         left -= 1;
         let from2 = nodes::start(table, e);
         let to2 = nodes::end(table, e);
-        if compare::same_string(text, from2 + 1, to2 - 1, from + 1, to - 1) {
-            return Search::Ended(true);
+        if !compare::apart(text, from2 + 1, to2 - 1, from + 1, to - 1) {
+            if compare::same_string(text, from2 + 1, to2 - 1, from + 1, to - 1) {
+                return Search::Ended(true);
+            }
         }
         e = link(links, e);
     }
