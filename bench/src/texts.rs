@@ -15,7 +15,7 @@ pub const PRETTY: Kind = kind("the same, pretty-printed", 0, |limit| {
 });
 
 /// The texts that might be slow.
-pub const WORST: [Kind; 17] = [
+pub const WORST: [Kind; 19] = [
     kind("one object of many names", 0, |limit| {
         largest(limit, usize::MAX, |n| names(n, short))
     }),
@@ -50,8 +50,16 @@ pub const WORST: [Kind; 17] = [
     kind("IDs of one chain, contrived", 0, |limit| {
         largest(limit, 1023, |n| family(n, "", alike))
     }),
+    kind("short IDs of one chain, contrived", 0, |limit| {
+        let ids = short_alike();
+        largest(limit, 1023, |n| family(n, "", |k| ids[k].clone()))
+    }),
     kind("names of one chain, contrived", 0, |limit| {
         largest(limit, 4096, |n| names(n, alike))
+    }),
+    kind("short names of one chain, contrived", 0, |limit| {
+        let all = short_alike();
+        largest(limit, all.len(), |n| names(n, |k| all[k].clone()))
     }),
     kind("a string of escapes", 0, |limit| {
         largest(limit, usize::MAX, |n| {
@@ -130,6 +138,25 @@ fn short(n: usize) -> String {
 /// The n-th of 4,096 names that go to one chain: `Az` and `B?` have one number, 65 * 59 + 122 and 66 * 59 + 63.
 fn alike(n: usize) -> String {
     (0..12).map(|place| ["Az", "B?"][n >> place & 1]).collect()
+}
+
+/// All names of four letters that go to the first of the 4,096 chains.
+fn short_alike() -> Vec<String> {
+    let letters: Vec<u8> = (b'!'..=b'~').filter(|c| *c != b'"' && *c != b'\\').collect();
+    let number = |name: &[u8]| name.iter().fold(0, |h, b| (h * 59 + u32::from(*b)) % 4096);
+    let mut found = Vec::new();
+    for a in &letters {
+        for b in &letters {
+            for c in &letters {
+                let start = [*a, *b, *c];
+                let last = (4096 - number(&start) * 59 % 4096) % 4096;
+                if let Some(d) = letters.iter().find(|d| u32::from(**d) == last) {
+                    found.push(String::from_utf8(vec![*a, *b, *c, *d]).expect("letters"));
+                }
+            }
+        }
+    }
+    found
 }
 
 /// A name of escapes only: four alike, and four that tell n.

@@ -248,6 +248,38 @@ fn unexamined_parts() {
     );
 }
 
+/// Rule 6 where an object has many names, also such as all go to one chain of the library's:
+/// `Az` and `B?` have one number there, 65 * 59 + 122 and 66 * 59 + 63.
+#[test]
+fn many_names() {
+    let alike = |n: usize| -> String { (0..7).map(|k| ["Az", "B?"][n >> k & 1]).collect() };
+    let plain = |n: usize| format!("n{n}");
+    let object = |names: &[String]| {
+        let members: Vec<String> = names.iter().map(|name| format!("\"{name}\":0")).collect();
+        format!("{{{}}}", members.join(","))
+    };
+    let inside = |value: &str| MINIMAL.replacen('{', &format!(r#"{{"metadata":{value},"#), 1);
+    for name in [&alike as &dyn Fn(usize) -> String, &plain] {
+        for count in [15, 16, 17, 18, 33, 128] {
+            let names: Vec<String> = (0..count).map(name).collect();
+            let whole = object(&names);
+            check(&inside(&whole), accepted(0));
+            check(&inside(&format!("[{whole},{whole}]")), accepted(0));
+            for earlier in [0, 1, count / 2, count - 1] {
+                let mut more = names.clone();
+                more.push(names[earlier].clone());
+                check_at_last(&inside(&object(&more)), 6, &format!("\"{}\"", names[earlier]));
+                let escaped = format!("\\u{:04x}{}", names[earlier].as_bytes()[0], &names[earlier][1..]);
+                more[count] = escaped.clone();
+                check_at(&inside(&object(&more)), 6, &format!("\"{escaped}\""));
+                more.swap(count, earlier);
+                more.extend((count..2 * count).map(|n| format!("x{n}")));
+                check_at_last(&inside(&object(&more)), 6, &format!("\"{}\"", names[earlier]));
+            }
+        }
+    }
+}
+
 #[test]
 fn the_lowest_rule_then_the_least_place() {
     check(r#"{"type":1,"x":{"a":1,"a":1}}"#, refused(6, 21));

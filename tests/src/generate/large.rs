@@ -64,6 +64,16 @@ fn texts() -> Vec<(u8, &'static str, Vec<u8>)> {
         ),
         (
             0,
+            "names of one chain",
+            with_metadata(&format!("[{},{}]", alike_names(400, ""), list("[]", 17_000))),
+        ),
+        (
+            6,
+            "a repeated name of one chain",
+            with_metadata(&format!("[{},{}]", alike_names(400, &alike(7)), list("[]", 17_000))),
+        ),
+        (
+            0,
             "a long numeral",
             with_scale(&format!("1{}e-60000", "0".repeat(60_000))),
         ),
@@ -151,6 +161,18 @@ fn with_metadata(value: &str) -> Vec<u8> {
 
 fn with_scale(numeral: &str) -> Vec<u8> {
     MINIMAL.replacen("1.0", numeral, 1).into_bytes()
+}
+
+/// The n-th of 4,096 names that go to one chain of the library's: `Az` and `B?` have one number there.
+fn alike(n: usize) -> String {
+    (0..12).map(|k| ["Az", "B?"][n >> k & 1]).collect()
+}
+
+/// An object of such names, and after them of one more if it is not empty.
+fn alike_names(count: usize, last: &str) -> String {
+    let names = (0..count).map(alike).chain([last.to_string()]);
+    let members: Vec<String> = names.filter(|name| !name.is_empty()).map(|name| format!("\"{name}\":0")).collect();
+    format!("{{{}}}", members.join(","))
 }
 
 fn many_names(count: usize, start: &str) -> String {
