@@ -13,6 +13,18 @@ pub fn page(name: &str) -> String {
     fs::read_to_string(root().join("docs").join(name)).expect(name)
 }
 
+/// What stands under a heading, up to the next one of any level.
+pub fn section<'a>(page: &'a str, heading: &str) -> &'a str {
+    let (_, section) = page.split_once(heading).expect(heading);
+    section.split_once("\n#").map_or(section, |(here, _)| here)
+}
+
+/// The rows of the tables under a heading, each as its cells.
+pub fn rows<'a>(page: &'a str, heading: &str) -> Vec<Vec<&'a str>> {
+    let lines = section(page, heading).lines().filter(|line| line.starts_with("| "));
+    lines.skip(1).map(|line| line.trim_matches('|').split(" | ").collect()).collect()
+}
+
 /// The words between backquotes.
 pub fn quoted(line: &str) -> impl Iterator<Item = &str> {
     line.split('`').skip(1).step_by(2)

@@ -3,21 +3,9 @@
 //! edit and no other, and cites only definitions and theorems that are there.
 //! What a contract asks is not read here, only whether it asks.
 
-use kebrawish_tests::pages::{crates, edits, is_name, page, quoted, root, specifies};
+use kebrawish_tests::pages::{crates, edits, is_name, page, quoted, root, rows, section, specifies};
 use std::collections::{BTreeMap, BTreeSet};
 use std::fs;
-
-/// The section under a heading.
-fn section<'a>(page: &'a str, heading: &str) -> &'a str {
-    let (_, section) = page.split_once(heading).expect(heading);
-    section.split_once("\n## ").map_or(section, |(here, _)| here)
-}
-
-/// The rows of the table under a heading, each as its cells.
-fn rows<'a>(page: &'a str, heading: &str) -> Vec<Vec<&'a str>> {
-    let lines = section(page, heading).lines().filter(|line| line.starts_with("| "));
-    lines.skip(1).map(|line| line.trim_matches('|').split(" | ").collect()).collect()
-}
 
 /// Each public function of a library, and whether its contract has a `requires`.
 /// Each contract has an `ensures`: no function is public with a silent promise.
