@@ -6,6 +6,7 @@
 
 pub mod compare;
 pub mod decimal;
+pub mod dump;
 pub mod generate;
 pub mod json;
 #[cfg(feature = "library")]

@@ -1,20 +1,32 @@
 //! Reads a text on standard input and prints one line: the lister's, with a room of
-//! 65,536 bytes, or with `--judge` the answer of judge.
+//! 65,536 bytes, or with `--judge` the answer of judge. With `--dump` it prints the sheet of an
+//! accepted text as a hex dump in place of the line.
 
 use std::io::{self, Read};
 use std::process::ExitCode;
 
-use kebrawish_tests::{judge, lay, Verdict};
+use kebrawish_tests::dump::dump;
+use kebrawish_tests::{judge, lay, read, sheet, Verdict};
 
 const ROOM: usize = 65_536;
 
+/// What is to be printed.
+#[derive(Clone, Copy, PartialEq)]
+enum Print {
+    Laid,
+    Judged,
+    Dump,
+}
+
 fn main() -> ExitCode {
     let arguments: Vec<String> = std::env::args().skip(1).collect();
-    let judging = match arguments.as_slice() {
-        [] => false,
-        [argument] if argument == "--judge" => true,
+    let arguments: Vec<&str> = arguments.iter().map(String::as_str).collect();
+    let print = match arguments.as_slice() {
+        [] => Print::Laid,
+        ["--judge"] => Print::Judged,
+        ["--dump"] => Print::Dump,
         _ => {
-            eprintln!("usage: reader [--judge] < TEXT");
+            eprintln!("usage: reader [--judge | --dump] < TEXT");
             return ExitCode::from(2);
         }
     };
@@ -23,15 +35,20 @@ fn main() -> ExitCode {
         eprintln!("reader: {error}");
         return ExitCode::from(2);
     }
-    let verdict = if judging {
-        judge(&text)
-    } else {
-        lay(&text, ROOM).0
+    if let (Print::Dump, Ok(model)) = (print, read(&text)) {
+        print!("{}", dump(&sheet::encode(&model)));
+        return ExitCode::SUCCESS;
+    }
+    let verdict = match print {
+        Print::Laid => lay(&text, ROOM).0,
+        Print::Judged | Print::Dump => judge(&text),
     };
     match verdict {
         Verdict::Refused { rule, place } => println!("refused {rule} at {place}"),
-        Verdict::Accepted { objects, .. } if judging => println!("accepted, objects {objects}"),
-        Verdict::Accepted { length, objects } => println!("laid {length} bytes, objects {objects}"),
+        Verdict::Accepted { length, objects } if print == Print::Laid => {
+            println!("laid {length} bytes, objects {objects}")
+        }
+        Verdict::Accepted { objects, .. } => println!("accepted, objects {objects}"),
     }
     ExitCode::SUCCESS
 }
