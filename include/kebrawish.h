@@ -27,6 +27,9 @@
  *    8  required member absent           17  one-sided link
  *    9  more than 1,024 city objects     18  sheet longer than the lent room (lay only)
  *
+ * docs/RULES.md has each rule with its place, its usual cause and an example, and
+ * docs/SHEET.md the bytes of a sheet.
+ *
  * Example:
  *
  *     #include <stdio.h>
@@ -39,7 +42,7 @@
  *
  *     int main(void)
  *     {
- *         static uint8_t sheet[65536];
+ *         static uint8_t sheet[KEBRAWISH_ROOM(sizeof text - 1)];
  *         uint64_t answer = kebrawish_lay((const uint8_t *)text, sizeof text - 1,
  *                                         sheet, sizeof sheet);
  *         unsigned rule = (unsigned)(answer >> 56);
@@ -60,6 +63,15 @@
 
 #include <stddef.h>
 #include <stdint.h>
+
+/*
+ * How many bytes of room suffice for the sheet of a text of so many bytes, whatever the text:
+ * kebrawish_lay never answers 18 in such a room. A sheet has at most half as many.
+ */
+#define KEBRAWISH_ROOM(text_length) (4 * (size_t)(text_length))
+
+/* How many suffice for any text: a longer one than 65,535 bytes is refused by rule 1. */
+#define KEBRAWISH_ROOM_FOR_ANY KEBRAWISH_ROOM(65535)
 
 #ifdef __cplusplus
 extern "C" {

@@ -5,8 +5,8 @@
 
 use crate::Verdict;
 
-/// More bytes than any sheet has: a byte of the text gives about two bytes at most.
-pub const LARGE_ROOM: usize = 200_000;
+/// More bytes than any sheet has: the header's `KEBRAWISH_ROOM_FOR_ANY`.
+pub const LARGE_ROOM: usize = 262_140;
 
 /// The answer of judge, and in how many rooms lay refused the text for its length.
 #[derive(Clone, Copy, Debug)]

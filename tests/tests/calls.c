@@ -29,7 +29,7 @@ static uint64_t judge(const char *text)
 }
 
 #ifdef KEBRAWISH_LAY
-static uint8_t room[65536];
+static uint8_t room[KEBRAWISH_ROOM_FOR_ANY];
 
 /* Lays a text in a room that is full of other bytes beforehand. */
 static uint64_t lay(const char *text, size_t length)
@@ -71,6 +71,10 @@ int main(void)
         return 9;
     if (lay("{}", 1000) != refused(8, 0) || !all(0, 1000, 0))
         return 10;
+    if (lay(KIOSK, KEBRAWISH_ROOM(strlen(KIOSK))) != accepted(1, 133))
+        return 11;
+    if (KEBRAWISH_ROOM(169) != 676 || KEBRAWISH_ROOM_FOR_ANY != 262140)
+        return 12;
 #endif
     return 0;
 }

@@ -1,7 +1,10 @@
 //! The lister, run by its script: the bytes that it prints are those of the reader's program.
 
+use std::env;
 use std::fs::{self, File, OpenOptions};
 use std::io::{ErrorKind, Write};
+use std::os::unix::fs::symlink;
+use std::path::{Path, PathBuf};
 use std::process::{Command, Output, Stdio};
 use std::thread;
 use std::time::Duration;
@@ -132,4 +135,48 @@ fn input_and_output_that_fail() {
         .expect("the lister");
     let said = String::from_utf8_lossy(&written.stderr);
     assert!(!written.status.success() && !said.is_empty(), "{said}");
+}
+
+/// Arguments are refused with a line of usage and status 2, and a text is not waited for.
+#[test]
+fn arguments() {
+    for argument in ["examples/kiosk.city.json", "--help", ""] {
+        let text = File::open(root().join("examples/minimal.city.json")).expect("an example");
+        let output = lister().arg(argument).stdin(text).output().expect("the lister");
+        assert_eq!(output.status.code(), Some(2));
+        let said = String::from_utf8_lossy(&output.stderr);
+        assert!(output.stdout.is_empty() && said.starts_with("usage: ") && said.lines().count() == 1, "{said}");
+    }
+}
+
+/// Without standard input, and where the program is not built and `rt` is not there, one clear
+/// line says so.
+#[test]
+fn what_is_missing() {
+    let shell = |line: &str| {
+        let mut command = Command::new("sh");
+        command.arg("-c").arg(line).arg(root().join("lister"));
+        command.output().expect("a shell")
+    };
+    let closed = shell(r#""$0" <&-"#);
+    let said = String::from_utf8_lossy(&closed.stderr);
+    assert_eq!((closed.status.code(), said.trim_end()), (Some(1), "lister: standard input: it is closed"));
+
+    // A copy of the script with nothing built beside it, and a path that has no rt.
+    let folder = Path::new(env!("CARGO_TARGET_TMPDIR")).join("not-built");
+    let _ = fs::remove_dir_all(&folder);
+    fs::create_dir_all(&folder).expect("a folder");
+    fs::copy(root().join("lister"), folder.join("lister")).expect("a copy");
+    let folders: Vec<PathBuf> = env::split_paths(&env::var_os("PATH").expect("a path")).collect();
+    for tool in ["bash", "dirname", "readlink", "find"] {
+        let mut places = folders.iter().map(|folder| folder.join(tool));
+        let place = places.find(|place| place.exists()).expect(tool);
+        symlink(place, folder.join(tool)).expect(tool);
+    }
+    let mut command = Command::new(folder.join("lister"));
+    let command = command.env("PATH", &folder).stdin(Stdio::null());
+    let output = command.output().expect("the copy");
+    let said = String::from_utf8_lossy(&output.stderr);
+    assert!(!output.status.success() && output.stdout.is_empty());
+    assert!(said.contains("rt, the command of the Rattle toolchain") && said.lines().count() == 1, "{said}");
 }

@@ -87,6 +87,8 @@ fn how_long_a_sheet_is() {
     let vertices = vec!["[0,0,0]"; 8_000].join(",");
     for text in [kiosk(), longest.clone(), document(&objects.join(","), ""), document("", &vertices)] {
         assert!(sheet(&text).len() <= 2 * text.len());
+        let (verdict, _) = compare::lay(text.as_bytes(), 4 * text.len(), 0xA5, "in the header's room");
+        assert_eq!(verdict.rule(), 0);
     }
     assert!(sheet(&longest).len() * 100 > 2 * longest.len() * 99);
     assert!(longest.len() + 2 > TEXT_LIMIT);
