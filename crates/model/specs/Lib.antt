@@ -1,5 +1,6 @@
 -- The city model (document 01's town), its reading from a tree, its sheet, and what the sheet tells.
 pub mod Code
+pub mod Unique
 pub mod Lists
 pub mod Model
 pub mod Read

@@ -10,7 +10,8 @@ use lib.ListN.{length}
 use lib.Dec.{T, eqb}
 use lib.IntN.{ℤ}
 use Rattle.utf8.specs.Bytes.{le}
-use Rattle.model.specs.Code.{signed, concatMap, All, Holds, Until, Unique, le-unique, signed-unique, each-until, each-same, each-inj, le-full, signed-full}
+use Rattle.model.specs.Code.{signed, concatMap, All, Holds}
+use Rattle.model.specs.Unique.{Until, Unique, le-unique, signed-unique, each-until, each-same, each-inj, le-full, signed-full}
 use Rattle.words.specs.Words.{depth, valuesDepth}
 use Rattle.model.specs.Model.{Nest, Three, Lod, Surface, listed, added, Semantics, Geometry, Rec, rec}
 use Rattle.model.specs.Model.{layRec, layThree, layDecimal, minorCode, lodCode, layNest, layValue, layValues, laySurface, surfaceRecs, semanticsRecs, geometryRecs, objectRecs, endRecs, modelRecs, layModel}
