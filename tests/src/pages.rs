@@ -25,6 +25,41 @@ pub fn rows<'a>(page: &'a str, heading: &str) -> Vec<Vec<&'a str>> {
     lines.skip(1).map(|line| line.trim_matches('|').split(" | ").collect()).collect()
 }
 
+/// An item of a list: what it says, and the items below it, each as `name: what`.
+pub struct Item {
+    pub text: String,
+    pub parts: Vec<(String, String)>,
+}
+
+impl Item {
+    /// What the item of this name below says.
+    pub fn part(&self, name: &str) -> &str {
+        let part = self.parts.iter().find(|(found, _)| found == name);
+        &part.unwrap_or_else(|| panic!("no {name} in {}", self.text)).1
+    }
+}
+
+/// The items of the lists under a heading of the second level, and under those within it.
+pub fn items(page: &str, heading: &str) -> Vec<Item> {
+    let (_, chapter) = page.split_once(heading).expect(heading);
+    let chapter = chapter.split("\n## ").next().expect("a chapter");
+    let mut items: Vec<Item> = Vec::new();
+    for line in chapter.lines() {
+        if let Some(text) = line.strip_prefix("- ") {
+            items.push(Item { text: text.to_string(), parts: Vec::new() });
+        } else if let Some(part) = line.strip_prefix("  - ") {
+            let (name, text) = part.split_once(": ").expect("a name");
+            let item = items.last_mut().expect("an item");
+            item.parts.push((name.to_string(), text.to_string()));
+        } else if let (Some(more), Some(item)) = (line.strip_prefix("  "), items.last_mut()) {
+            let text = item.parts.last_mut().map_or(&mut item.text, |(_, text)| text);
+            *text += " ";
+            *text += more.trim_start();
+        }
+    }
+    items
+}
+
 /// The words between backquotes.
 pub fn quoted(line: &str) -> impl Iterator<Item = &str> {
     line.split('`').skip(1).step_by(2)

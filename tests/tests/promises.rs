@@ -3,7 +3,7 @@
 //! edit and no other, and cites only definitions and theorems that are there.
 //! What a contract asks is not read here, only whether it asks.
 
-use kebrawish_tests::pages::{crates, edits, is_name, page, quoted, root, rows, section, specifies};
+use kebrawish_tests::pages::{crates, edits, is_name, items, page, quoted, root, section, specifies};
 use std::collections::{BTreeMap, BTreeSet};
 use std::fs;
 
@@ -33,11 +33,11 @@ fn public() -> BTreeMap<String, bool> {
     found
 }
 
-/// `crate::function`, as the first cell of a row names them: after the first, the crate may be left out.
-fn functions(cell: &str) -> Vec<String> {
+/// `crate::function`, as a list names them: after the first, the crate may be left out.
+fn functions(list: &str) -> Vec<String> {
     let mut place = String::new();
     let mut found = Vec::new();
-    for word in quoted(cell) {
+    for word in quoted(list) {
         let word = word.split('(').next().expect("a name");
         let name = match word.split_once("::") {
             Some((start, name)) => {
@@ -55,10 +55,12 @@ fn functions(cell: &str) -> Vec<String> {
 fn every_public_function_is_there_once() {
     let page = page("PROMISES.md");
     let mut named = BTreeSet::new();
-    for row in rows(&page, "## Functions") {
-        for function in functions(row[0]) {
+    for item in items(&page, "## Functions") {
+        let (names, _) = item.text.split_once("`: ").expect("a promise");
+        for function in functions(&format!("{names}`")) {
             assert!(named.insert(function.clone()), "{function} is there twice");
         }
+        assert!(item.part("rules out").split(". ").count() >= 2, "{names}: two wrong programs");
     }
     let public: BTreeSet<String> = public().into_keys().collect();
     let missing: Vec<_> = public.difference(&named).collect();
@@ -72,9 +74,9 @@ fn every_public_function_is_there_once() {
 fn what_callers_owe_is_said_once() {
     let page = page("PROMISES.md");
     let mut said = BTreeMap::new();
-    for row in rows(&page, "## What callers owe") {
-        let asks = row[0].trim() != "nothing";
-        for function in functions(row[1]) {
+    for item in items(&page, "## What callers owe") {
+        let asks = item.text != "nothing";
+        for function in functions(item.part("functions")) {
             assert!(said.insert(function.clone(), asks).is_none(), "{function} is there twice");
         }
     }
@@ -84,9 +86,9 @@ fn what_callers_owe_is_said_once() {
 #[test]
 fn every_edit_is_named() {
     let page = page("PROMISES.md");
-    let tables = [rows(&page, "## Functions"), rows(&page, "## Promises about the definitions")];
-    let cells = tables.iter().flatten().map(|row| row.last().expect("a cell"));
-    let named: BTreeSet<String> = cells.flat_map(|cell| quoted(cell)).map(str::to_string).collect();
+    let lists = [items(&page, "## Functions"), items(&page, "## Promises about the definitions")];
+    let named = lists.iter().flatten().flat_map(|item| quoted(item.part("edits")));
+    let named: BTreeSet<String> = named.map(str::to_string).collect();
     let mut labels = BTreeSet::new();
     for label in crates().iter().flat_map(|name| edits(name)) {
         assert!(labels.insert(label.clone()), "two crates have an edit {label}");
@@ -104,11 +106,11 @@ fn what_is_cited_exists() {
     let crates = crates();
     let public = public();
     let mut count = 0;
-    // A public function; a file, in the repository or in the crate of the row; a crate; a
-    // parameter of the row's function; else a definition of some crate.
-    let mut cited = |word: &str, row: &str| {
-        let place = row.trim().trim_start_matches('`').split("::").next().expect("a crate");
-        let mut parameters = row.split(['(', ')', ',', '`']).map(str::trim);
+    // A public function; a file, in the repository or in the crate of the functions; a crate; a
+    // parameter of one of them; else a definition of some crate.
+    let mut cited = |word: &str, functions: &str| {
+        let place = functions.trim_start_matches('`').split("::").next().expect("a crate");
+        let mut parameters = functions.split(['(', ')', ',', '`']).map(str::trim);
         let mut names = public.keys().map(|name| name.split_once("::").expect("a crate").1);
         count += 1;
         if word.contains("::") {
@@ -123,21 +125,22 @@ fn what_is_cited_exists() {
             || names.any(|name| name == word)
     };
     let mut wrong = Vec::new();
-    for row in rows(&page, "## Functions") {
-        wrong.extend(quoted(row[1]).filter(|word| !cited(word, row[0])).map(str::to_string));
+    for item in items(&page, "## Functions") {
+        let (names, promise) = item.text.split_once("`: ").expect("a promise");
+        wrong.extend(quoted(promise).filter(|word| !cited(word, names)).map(str::to_string));
     }
     let free = section(&page, "## What is left free");
     wrong.extend(quoted(free).filter(|word| !cited(word, "")).map(str::to_string));
-    let owed = rows(&page, "## What callers owe");
-    for row in &owed {
-        wrong.extend(quoted(row[0]).filter(|word| !cited(word, "")).map(str::to_string));
+    for item in items(&page, "## What callers owe") {
+        wrong.extend(quoted(&item.text).filter(|word| !cited(word, "")).map(str::to_string));
     }
     // The crate that a theorem stands in is the first one in brackets.
-    for row in rows(&page, "## Promises about the definitions") {
-        let (theorems, place) = row[0].split_once('(').expect("a crate");
+    for item in items(&page, "## Promises about the definitions") {
+        let (names, text) = item.text.split_once("): ").expect("what it says");
+        let (theorems, place) = names.split_once('(').expect("a crate");
         let place = quoted(place).next().expect("a crate");
         wrong.extend(quoted(theorems).filter(|name| !specifies(place, name)).map(str::to_string));
-        wrong.extend(quoted(row[1]).filter(|word| !cited(word, "")).map(str::to_string));
+        wrong.extend(quoted(text).filter(|word| !cited(word, "")).map(str::to_string));
     }
     assert!(wrong.is_empty(), "not found: {wrong:?}");
     println!("{count} names");
