@@ -38,7 +38,7 @@ isSurfaceType t = isOne surfaceWords t || isAddedName t
 -- rule 7, below: "Object: root, `transform`, `CityObjects`, each city object, `attributes`, each geometry, `semantics`, each surface.
 -- String: the `type` of the root, of a city object, a geometry and a surface, `version`, `lod`, each entry of a city object's `children` and `parents`.
 -- Number: each entry of `scale` and `translate`.
--- Array: `scale`, `translate`, `vertices`, `geometry`, `children`, `parents`, `boundaries`, `surfaces`, `values`."
+-- .. Array: `scale`, `translate`, `vertices`, `geometry`, `children`, `parents`, `boundaries`, `surfaces`, `values`."
 
 -- a string that is this word
 unfoldable pub oneWord : List ℕ → Check
