@@ -1,6 +1,6 @@
 /*
  * Calls the library through its header. The status is 0 if the answers are those that
- * document 01 gives, else the number of the first that is not.
+ * docs/RULES.md gives, else the number of the first that is not.
  */
 #include "kebrawish.h"
 

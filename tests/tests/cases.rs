@@ -1,5 +1,6 @@
-//! Cases written by hand. The expected values come from document 01; the reader gives them,
-//! and with the features `library` and `lay` the library also.
+//! Cases written by hand. The expected values come from the papers' rules (docs/RULES.md,
+//! docs/SHEET.md); the reader gives them, and with the features `library` and `lay` the
+//! library also.
 
 use kebrawish_tests::samples::{self, document, MINIMAL};
 use kebrawish_tests::{compare, Verdict};
@@ -77,7 +78,7 @@ fn check_at_last(text: &str, rule: u8, part: &str) {
     check(text, refused(rule, text.rfind(part).unwrap()));
 }
 
-/// The sample readings of document 01.
+/// The sample readings (docs/TRACE.md).
 #[test]
 fn sample_readings() {
     for (text, expected) in samples::readings() {
@@ -330,8 +331,8 @@ fn an_instance_is_examined_by_rules_7_8_and_10() {
     );
 }
 
-/// Rule 7, for each value that document 01 names: `#` stands for it, and its kind is that of
-/// the second text.
+/// Rule 7, for each value that docs/RULES.md names: `#` stands for it, and its kind is that
+/// of the second text.
 #[test]
 fn kinds() {
     let root = |name: &str, old: &str| {
@@ -854,7 +855,7 @@ fn absent_and_empty_lists_are_the_same_model() {
     assert_ne!(without, with);
 }
 
-/// The traps that document 01 lists as builds that would sound right.
+/// The traps that docs/TRACE.md lists as builds that would sound right.
 #[test]
 fn builds_that_would_sound_right() {
     // Matching on raw bytes.

@@ -1,4 +1,4 @@
-//! The texts of `examples/`. The lengths are added up from the records of document 01.
+//! The texts of `examples/`. The lengths are added up from the records of docs/SHEET.md.
 
 use std::fs;
 use std::path::{Path, PathBuf};

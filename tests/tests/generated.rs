@@ -123,7 +123,7 @@ impl Counts {
                 assert!(found, "rule {rule} is not broken at {role:?}");
             }
         }
-        // The types of document 01, the pairs that it permits, and 18 surface types and `+`.
+        // The types of docs/RULES.md, the pairs that it permits, and 18 surface types and `+`.
         let kinds = [
             ("object types", 33, LEAST),
             ("geometry types", 7, LEAST),

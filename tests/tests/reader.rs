@@ -1,4 +1,5 @@
-//! Tests of what only the reader has. The expected values come from document 01.
+//! Tests of what only the reader has. The expected values come from the papers' rules
+//! (docs/RULES.md, docs/SHEET.md).
 
 use std::collections::BTreeMap;
 use std::io::Write;

@@ -1,11 +1,12 @@
-//! The names in `docs/TRACE.md`: each definition, function, test and edit that it names exists.
+//! The names in `docs/TRACE.md`: each definition, function, test and edit that it names exists,
+//! and a function or a test in one place.
 //! The code of lay may be missing without the feature `lay`.
 
 use kebrawish_tests::pages::{crates, defines, edits, folder, is_name, page, quoted, root};
 use std::fs;
 
-/// Whether `crate/File: a, b` names definitions, `crate::function` a function, and
-/// `file::test` a test. None for what is no such name.
+/// Whether `crate/File: a, b` names definitions of that file, `crate::function` one function
+/// of the crate's sources, and `file::test` one test. None for what is no such name.
 fn exists(quoted: &str) -> Option<bool> {
     if let Some((file, names)) = quoted.split_once(": ") {
         let (name, file) = file.split_once('/')?;
@@ -22,7 +23,7 @@ fn exists(quoted: &str) -> Option<bool> {
         Ok(text) => text,
         Err(_) => folder(&root().join(format!("crates/{place}/src"))),
     };
-    Some(text.contains(&format!("fn {name}(")))
+    Some(text.matches(&format!("fn {name}(")).count() == 1)
 }
 
 #[test]
@@ -53,6 +54,6 @@ fn every_name_exists() {
         }
     }
     println!("{} names and {} edits", counts[0], counts[1]);
-    assert!(wrong.is_empty(), "not found: {wrong:?}");
+    assert!(wrong.is_empty(), "not found, or not in one place: {wrong:?}");
     assert!(counts[0] > 200 && counts[1] > 5);
 }

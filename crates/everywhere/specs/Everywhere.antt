@@ -1,4 +1,4 @@
--- Rules 5 and 6 of document 01, which hold in every part of a text: all places at which a tree breaks them.
+-- Rules 5 and 6 of docs/RULES.md, which hold in every part of a text: all places at which a tree breaks them.
 use Prim.Native.Nat.{ℕ, _+_}
 use mathlib.Core.Bool.{Bool, false, cond, _||_}
 use mathlib.Core.List.{List, [], _∷_, _++_}
@@ -24,7 +24,7 @@ unfoldable mutual
   stringsOf empty = []
   stringsOf (member k v ms) = k ∷ (strings v ++ stringsOf ms)
 
--- rule 5: an unpaired surrogate escape, at its backslash
+-- rule 5, in each of some strings and names, and in all of a tree
 unfoldable pub unpairedIn : List Name → List ℕ
 unfolding unpairedFrom
 unpairedIn [] = []
@@ -40,7 +40,7 @@ unfolding same
 among [] t = false
 among (u ∷ us) t = same u t || among us t
 
--- rule 6: a name repeats an earlier one of its object, at the later name; `earlier` are the names before these members
+-- rule 6: "a name repeats an earlier one of its object" at "the later name"; `earlier` are the names before these members
 unfoldable pub repeated : List (List ℕ) → Members → List ℕ
 unfolding among decode
 repeated earlier empty = []
@@ -49,7 +49,7 @@ repeated earlier (member k v ms) = cond (among earlier (decode (k .raw))) (k .pl
 unfoldable mutual
   unfolding repeated
 
-  -- in any object
+  -- "(any object)"
   pub rule6 : Json → List ℕ
   rule6 (null p e) = []
   rule6 (bool p e b) = []

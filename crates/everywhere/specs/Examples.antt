@@ -1,4 +1,4 @@
--- Sample readings of document 01 that rules 5 and 6 decide, by computation: the places in the tree of the text.
+-- Sample readings (docs/TRACE.md) that rules 5 and 6 of docs/RULES.md decide, by computation: the places in the tree of the text.
 use Prim.Native.Nat.{ℕ}
 use mathlib.Core.Path.{_≡_, refl}
 use mathlib.Core.List.{List, [], _∷_}

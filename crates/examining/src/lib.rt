@@ -1,4 +1,4 @@
-// Examines a CityJSON text by the rules of document 01: what judge and lay have in common.
+// Examines a CityJSON text by the rules of docs/RULES.md: what judge and lay have in common.
 ghost use mathlib.Core.Path.{_≡_};
 ghost use Rattle.verdict.specs.Verdict.{screening};
 ghost use Rattle.links.specs.Says.{LinksGive};

@@ -1,4 +1,4 @@
--- Rules 7 to 17 of document 01, by computation: examples of each, those at its bounds among them. The expected verdicts are worked out from document 01.
+-- Rules 7 to 17 of docs/RULES.md, by computation: examples of each, those at its bounds among them. The expected verdicts are worked out from that page.
 use Prim.Native.Nat.{ℕ, zero, suc, _+_, _*_, _/_, _%_}
 use Prim.Native.String.{String}
 use mathlib.Core.Path.{_≡_, refl}
@@ -99,7 +99,7 @@ withVertices part =
 
 -- ---- the table
 
--- a text, and its verdict by document 01
+-- a text, and its verdict by the rules
 abbrev Example : Type 0
 Example = List ℕ × Verdict
 

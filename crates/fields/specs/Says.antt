@@ -30,7 +30,8 @@ pub record MemberAt (x t : List ℕ) (i : ℕ) (m : Member) : Type 0 where
   pub name : Quoted x t i (m .0 .place) (m .0 .end) (m .0 .raw)
   pub value : Sub x t (i + 3) (m .1)
 
--- the index holds the node of the name of each of the first 1,024 members, in order, and then zeros
+-- "the index that names each object's place has that fixed size": it holds the node of the name of each of the first 1,024 members,
+-- in order, and then zeros
 pub record Indexed (x t : List ℕ) (ms : List Member) (index : Index) : Type 0 where
   pub room : length (index .offsets) ≡ 1024
   pub count : index .count ≡ min 1024 (length ms)

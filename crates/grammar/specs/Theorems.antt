@@ -1,5 +1,5 @@
 -- The machine of `json` and RFC 8259's grammar agree: what is read and as which tree, where the machine stops, and whether it says there
--- that a level too many is opened (document 01, rules 3 and 4). The grammar alone decides each.
+-- that a level too many is opened (docs/RULES.md, rules 3 and 4). The grammar alone decides each.
 use Prim.Native.Nat.{ℕ, _+_, _≤_, _<_}
 use native.Mathlib.Omega.{arith}
 use mathlib.Core.Path.{_≡_, refl, sym, _∙_}

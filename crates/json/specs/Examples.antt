@@ -1,4 +1,4 @@
--- Sample readings of document 01 that rules 3 and 4 decide, by computation.
+-- Sample readings (docs/TRACE.md) that rules 3 and 4 of docs/RULES.md decide, by computation.
 use mathlib.Core.Path.{_≡_, refl}
 use mathlib.Core.List.{[]}
 use lib.ListN.{replicate}

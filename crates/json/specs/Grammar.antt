@@ -70,11 +70,12 @@ pub data Word (x : List ℕ) : List ℕ → ℕ → ℕ → Type 0 where
   end : {n : ℕ} → Word x [] n n
   letter : {n m w : ℕ} {ws : List ℕ} → At x n w → Word x ws (n + 1) m → Word x (w ∷ ws) n m
 
--- the name that stands from p to e
+-- the name that stands from p to e, with p as its place
 abbrev pub nameAt : List ℕ → ℕ → ℕ → Name
 nameAt x p e = record { place = p; end = e; raw = slice (p + 1) (e - 1) x }
 
 mutual
+  -- '"Value" and "name" places are the offset of the first byte': p
   pub data Value (x : List ℕ) : ℕ → ℕ → ℕ → Json → Type 0 where
     string : {l p e : ℕ} → At x p 34 → Chars x (p + 1) e → Value x l p e (tree.str p e (slice (p + 1) (e - 1) x))
     number : {l p e : ℕ} → Number x p e → Value x l p e (tree.num p e (slice p e x))
@@ -100,7 +101,7 @@ mutual
         → Value x l p e v → Ws x e k → At x k 44
         → Members x l (k + 1) m ms → Members x l n m (member (nameAt x q f) v ms)
 
--- JSON-text = ws value ws, of at most l levels, with its tree
+-- "JSON is RFC 8259": JSON-text = ws value ws, of at most l levels, with its tree
 pub data Text (l : ℕ) (x : List ℕ) : Json → Type 0 where
   text : {n m : ℕ} {v : Json} → Ws x 0 n → Value x l n m v → Ws x m (length x) → Text l x v
 

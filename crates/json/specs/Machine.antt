@@ -1,5 +1,5 @@
 -- JSON texts (RFC 8259) read one byte at a time, by a machine with a stack of the containers that are open.
--- It stops at the first byte that no JSON text has there (document 01, rule 3) and at the byte that opens a level too many (rule 4).
+-- It stops at the first byte that no JSON text has there (docs/RULES.md, rule 3) and at the byte that opens a level too many (rule 4).
 use Prim.Native.Nat.{ℕ, zero, suc, _+_, _-_}
 use mathlib.Core.Bool.{Bool, true, false, cond, _||_, _&&_}
 use mathlib.Core.Option.{Option, some}
@@ -79,7 +79,7 @@ module _ (most : ℕ) (text : List ℕ) where
   abbrev pub numeral : ℕ → ℕ → Json
   numeral p e = num p e (slice p e text)
 
-  -- a container is opened
+  -- a container is opened: "the root array or object is level 1"
   abbrev pub opened : Mode → List Frame → Step
   opened m ks = cond (ltb (length ks) most) (go m ks) deep
 
@@ -196,7 +196,7 @@ module _ (most : ℕ) (text : List ℕ) where
   run m ks n [] = finish m ks n
   run m ks n (b ∷ bs) = follow (step m ks n b) n (λ m′ ks′. run m′ ks′ (n + 1) bs)
 
--- what a text is read as, with at most 32 levels (document 01, rules 3 and 4)
+-- what a text is read as: "a nesting of at most 32 levels"
 unfoldable pub read : List ℕ → Outcome
 unfolding run
 read text = run 32 text want [] 0 text

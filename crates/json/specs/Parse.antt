@@ -23,7 +23,7 @@ pub record Stands (x t₀ t : List ℕ) (n : ℕ) : Type 0 where
   pub long : length t ≡ length t₀
   pub rest : (k : ℕ) → n ≤ k → getD t k 0 ≡ getD t₀ k 0
 
--- Long: the text has more than 65,535 bytes (document 01, rule 1). Short: it has not, and the lent table has fewer words than a text of this length
+-- Long: the text has more than 65,535 bytes (docs/RULES.md, rule 1). Short: it has not, and the lent table has fewer words than a text of this length
 -- may take. Neither writes anything. Otherwise what the machine says: the tree; or the place of the byte at which it stops (rule 3), or of the one
 -- that opens a level too many (rule 4), and then the words of the table are free
 unfoldable pub Tells : List ℕ → List ℕ → List ℕ → Parsed → Type 0

@@ -1,4 +1,4 @@
-// Judges a CityJSON text by the rules of document 01.
+// Judges a CityJSON text by the rules of docs/RULES.md.
 ghost use Prim.Native.Nat.{_≤_};
 ghost use mathlib.Core.Path.{_≡_};
 ghost use lib.ListN.{length};

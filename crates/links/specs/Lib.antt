@@ -1,3 +1,3 @@
--- Rules 15 to 17 of document 01.
+-- Rules 15 to 17 of docs/RULES.md.
 pub mod Passes
 pub mod Says

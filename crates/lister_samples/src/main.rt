@@ -1,4 +1,4 @@
-// The sample readings of document 01 in the order of its table, then `{}` and the kiosk: the line that the lister prints for each.
+// The sample readings (docs/TRACE.md) in the order of the paper's table, then `{}` and the kiosk: the line that the lister prints for each.
 use libc::STDOUT_FILENO;
 
 // Prints the line of a text.

@@ -1,4 +1,4 @@
--- The lines that document 01 shows, computed.
+-- The lines of the sample readings (docs/TRACE.md), and others, computed.
 use mathlib.Core.Path.{_≡_, refl}
 use mathlib.Core.List.{List, [], _∷_, _++_}
 use Prim.Native.Nat.{ℕ}

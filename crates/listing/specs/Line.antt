@@ -1,4 +1,4 @@
--- The line that the lister prints for an answer of lay (document 01, "Sample readings").
+-- The line that the lister prints for an answer of lay.
 use Prim.Native.Nat.{ℕ, zero, suc, _+_, _/_, _%_}
 use mathlib.Core.Bool.{true, false}
 use mathlib.Core.List.{List, [], _∷_, _++_}

@@ -1,4 +1,4 @@
--- Alike texts read as the same model.
+-- Alike texts, and that they read as the same model (docs/SHEET.md, "Alike texts").
 use mathlib.Core.Path.{_≡_, refl, sym, ap, _∙_}
 use mathlib.Core.List.{List, [], _∷_, map}
 use mathlib.Core.Option.{Option, some, Option·map}
@@ -17,7 +17,7 @@ use Rattle.model.specs.Read.{get, orNull, maybeDecimal, zeroIfNone, deci
 
 -- ---- the definition
 
--- two JSON values agree, wherever they stand: members by name in any order, arrays in order, names and strings as decoded, numbers by value
+-- two JSON values agree: "members are matched by name in any order, .. arrays go in order, names and strings as decoded, numbers by value"
 unfoldable mutual
   pub Same : Json → Json → Type 0
   Same (null p e) k = (q f : ℕ) × (k ≡ null q f)
@@ -65,6 +65,7 @@ Agree (entries s) j k = Both (λ a b. (nameOf a ≡ nameOf b) × Agree s (a .1) 
 Agree (field n s r) j k = Perhaps (Agree s) (find n j) (find n k) × Agree r j k
 Agree none-else j k = Unit {0}
 
+-- "The unexamined members, those examined by rules 1 to 7 only, are left out first; no city object is left out": what is examined
 unfoldable pub surfaceShape : Shape
 surfaceShape = field "type" whole none-else
 
@@ -85,7 +86,7 @@ rootShape =
     field "type" whole (field "version" whole (field "transform" transformShape
     (field "CityObjects" (entries objectShape) (field "vertices" whole none-else))))
 
--- document 01's "alike", of the trees of two texts: unexamined members are left out, and the city objects are compared in text order
+-- "Two accepted texts are alike when their JSON values agree in this way: .. those of `CityObjects` are compared in text order"
 unfoldable pub Alike : Json → Json → Type 0
 Alike = Agree rootShape
 
@@ -251,6 +252,7 @@ objects-r : Respects (entries objectShape) (λ x. map objectOf (members x))
 unfolding Agree
 objects-r j k a = map-both _ objectOf objectOf object-r (members j) (members k) a
 
+-- "Alike texts read as the same town"
 pub alike-same-model : (j k : Json) → Alike j k → modelOf j ≡ modelOf k
 unfolding Alike rootShape modelOf Agree
 alike-same-model j k a =

@@ -1,4 +1,4 @@
--- Texts that are alike and texts that are not (document 01, "Town and sheet"), by computation.
+-- Texts that are alike and texts that are not (docs/SHEET.md, "Alike texts"), by computation.
 use mathlib.Core.Path.{_≡_, refl, ap}
 use mathlib.Core.List.{List, _++_, map}
 use mathlib.Core.Bool.{Bool, true, false}

@@ -1,4 +1,4 @@
--- What document 01 asks of a model, apart from links (rules 10, 12, 13, 15), and that its sheet is short.
+-- What docs/RULES.md asks of a model, apart from links (rules 10, 12, 13, 15), and that its sheet is short.
 use mathlib.Core.List.{List, [], _∷_}
 use mathlib.Core.Option.{Option, none, some}
 use Prim.Native.Nat.{ℕ, zero, suc, _^_, _≤_, _<_}

@@ -1,4 +1,4 @@
--- The city model (document 01's town), its reading from a tree, its sheet, and what the sheet tells.
+-- The city model (docs/SHEET.md), its reading from a tree, its sheet, and what the sheet tells.
 pub mod Code
 pub mod Unique
 pub mod Lists

@@ -1,4 +1,4 @@
--- The city model (document 01's town) and its sheet (section "Town and sheet").
+-- The city model (the paper's town) and its sheet (docs/SHEET.md).
 use mathlib.Core.Bool.{cond}
 use mathlib.Core.List.{List, [], _∷_, _++_, map}
 use mathlib.Core.Option.{Option, none, some}
@@ -34,17 +34,19 @@ pub data Surface : Type 0 where
   -- any other: its whole name, which begins with `+`
   added : List ℕ → Surface
 
+-- "its surfaces' types and its values"
 pub record Semantics (code : ℕ) : Type 0 where
   pub surfaces : List Surface
   pub values : Nest (Option ℕ) (valuesDepth code)
 
+-- "each geometry's type, lod, boundary tree and, if present," its semantics
 pub record Geometry : Type 0 where
   pub code : ℕ
   pub lod : Lod
   pub boundary : Nest ℕ (depth code)
   pub semantics : Option (Semantics code)
 
--- a link to another object is an L: its ID in a model, its number on a sheet
+-- "(ID, type, children, parents, geometries)"; a link to another object is an L: its ID in a model, its number on a sheet
 pub record Object (L : Type 0) : Type 0 where
   pub id : List ℕ
   pub code : ℕ
@@ -52,12 +54,14 @@ pub record Object (L : Type 0) : Type 0 where
   pub parents : List L
   pub geometries : List Geometry
 
+-- "six transform pairs, the vertices, the objects in text order"
 pub record ModelOf (L : Type 0) : Type 0 where
   pub scale : Three Decimal
   pub translate : Three Decimal
   pub vertices : List (Three ℤ)
   pub objects : List (Object L)
 
+-- "Two towns are the same when all of this is equal"
 abbrev pub Model : Type 0
 Model = ModelOf (List ℕ)
 
@@ -67,12 +71,14 @@ Model = ModelOf (List ℕ)
 pub data Rec : Type 0 where
   rec : ℕ → List ℕ → Rec
 
+-- "a four-byte payload length, a two-byte kind, then the payload"
 unfoldable pub layRec : Rec → List ℕ
 layRec (rec kind payload) = le 4 (length payload) ++ le 2 kind ++ payload
 
 unfoldable pub layThree : {A : Type 0} → (A → List ℕ) → Three A → List ℕ
 layThree lay t = lay (t .x) ++ lay (t .y) ++ lay (t .z)
 
+-- "m in 8 bytes and e in 2"
 unfoldable pub layDecimal : Decimal → List ℕ
 layDecimal d = signed 8 (d .m) ++ signed 2 (d .e)
 
@@ -80,23 +86,26 @@ unfoldable pub minorCode : Option ℕ → ℕ
 minorCode none = 15
 minorCode (some n) = n
 
+-- "Lod `2.1` is 2·16+1; `2` is 2·16+15"
 unfoldable pub lodCode : Lod → ℕ
 lodCode l = l .major * 16 + minorCode (l .minor)
 
--- each array as its count and its elements
+-- "the boundary in four-byte words: each array as its element count followed by its elements"
 unfoldable pub layNest : (d : ℕ) → Nest ℕ d → List ℕ
 layNest zero n = le 4 n
 layNest (suc d) l = le 4 (length l) ++ concatMap (layNest d) l
 
+-- "FFFFFFFF hexadecimal for null"
 unfoldable pub layValue : Option ℕ → List ℕ
 layValue none = le 4 0xffff_ffff
 layValue (some n) = le 4 n
 
--- the values in order, with no counts
+-- "values in order", with no counts
 unfoldable pub layValues : (d : ℕ) → Nest (Option ℕ) d → List ℕ
 layValues zero v = layValue v
 layValues (suc d) l = concatMap (layValues d) l
 
+-- "two-byte code, then for 19 the whole decoded name"
 unfoldable pub laySurface : Surface → List ℕ
 laySurface (listed code) = le 2 code
 laySurface (added name) = le 2 19 ++ name
@@ -104,15 +113,18 @@ laySurface (added name) = le 2 19 ++ name
 unfoldable pub surfaceRecs : Surface → List Rec
 surfaceRecs s = rec 7 (laySurface s) ∷ []
 
+-- "With semantics: kind 7 for each surface .. and one kind 8"
 unfoldable pub semanticsRecs : (code : ℕ) → Option (Semantics code) → List Rec
 semanticsRecs code none = []
 semanticsRecs code (some s) = concatMap surfaceRecs (s .surfaces) ++ rec 8 (layValues (valuesDepth code) (s .values)) ∷ []
 
+-- "Geometry: kind 6 (two-byte code, two-byte lod, then the boundary ..)"
 unfoldable pub geometryRecs : Geometry → List Rec
 geometryRecs g =
     rec 6 (le 2 (g .code) ++ le 2 (lodCode (g .lod)) ++ layNest (depth (g .code)) (g .boundary))
     ∷ semanticsRecs (g .code) (g .semantics)
 
+-- "kind 3 (two-byte code, then the ID in UTF-8), kind 4 (children as four-byte object numbers ..), kind 5 (parents), then its geometries"
 unfoldable pub objectRecs : Object ℕ → List Rec
 objectRecs o =
     rec 3 (le 2 (o .code) ++ o .id)
@@ -120,10 +132,11 @@ objectRecs o =
     ∷ rec 5 (concatMap (le 4) (o .parents))
     ∷ concatMap geometryRecs (o .geometries)
 
--- the sheet ends with this
+-- "Kind 9, empty, ends the sheet"
 unfoldable pub endRecs : List Rec
 endRecs = rec 9 [] ∷ []
 
+-- "Kind 1: six pairs, scale first .. Kind 2: vertices, 4 bytes a coordinate. For each object: .."
 unfoldable pub modelRecs : ModelOf ℕ → List Rec
 unfolding endRecs
 modelRecs t =
@@ -136,7 +149,7 @@ layModel t = concatMap layRec (modelRecs t)
 
 -- ---- object numbers for IDs
 
--- how many of the IDs stand before the first that is this one
+-- "object numbers from 0": how many of the IDs stand before the first that is this one
 unfoldable pub objectNumber : List (List ℕ) → List ℕ → ℕ
 objectNumber [] id = 0
 objectNumber (i ∷ ids) id = cond (same i id) 0 (suc (objectNumber ids id))

@@ -1,4 +1,5 @@
--- The city model of a JSON tree. Whatever is not there, or is of another kind, reads as empty, zero or none: that matters for no accepted text.
+-- The city model of a JSON tree (docs/SHEET.md). Whatever is not there, or is of another kind, reads as empty, zero or none.
+-- For an accepted text that matters for absent lists (`orNull`), for null (`valueOf`) and for absent semantics alone.
 use mathlib.Core.Bool.{cond}
 use mathlib.Core.List.{List, [], _∷_, map}
 use mathlib.Core.Option.{Option, none, some, Option·map}
@@ -14,6 +15,7 @@ use Rattle.json.specs.Tree.{Json}
 use Rattle.nodes.specs.Access.{Member, elements, members, nameOf, textOf, find}
 use Rattle.model.specs.Model.{Nest, Three, Lod, Surface, listed, added, Semantics, Geometry, Object, Model}
 
+-- "Absent and empty `children`, `parents` or `geometry` are the same": what is absent reads as null, which has no elements
 unfoldable pub orNull : Option Json → Json
 orNull none = tree.null 0 0
 orNull (some j) = j
@@ -99,6 +101,7 @@ objectOf m =
       geometries = map geometryOf (elements (get "geometry" j));
     }
 
+-- "The town is what is read from the JSON values"
 unfoldable pub modelOf : Json → Model
 modelOf j = record {
   scale = threeOf decimalOf (get "scale" (get "transform" j));

@@ -1,4 +1,4 @@
--- A model as document 01 asks for, whose sheet has fewer than 2^32 bytes, fits the sheet's fields.
+-- A model as docs/RULES.md asks for, whose sheet has fewer than 2^32 bytes, fits the sheet's fields.
 use mathlib.Core.Path.{_≡_, refl, sym, ap, _∙_}
 use mathlib.Core.List.{List, [], _∷_, _++_, map, append-assoc}
 use mathlib.Core.Option.{Option, none, some}

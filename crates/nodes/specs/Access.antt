@@ -82,12 +82,12 @@ members (str p e raw) = []
 members (arr p e vs) = []
 members (obj p e ms) = pairs ms
 
--- a member's name, decoded
+-- "names and strings are compared after escapes are decoded": a member's name
 unfoldable pub nameOf : Member → List ℕ
 unfolding decode
 nameOf m = decode (m .0 .raw)
 
--- a string, decoded
+-- a string's text
 unfoldable pub textOf : Json → List ℕ
 unfolding decode
 textOf (null p e) = []

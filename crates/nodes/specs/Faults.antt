@@ -2,8 +2,8 @@
 use Prim.Native.Nat.{ℕ, _+_, _*_, _/_, _%_, min}
 use mathlib.Core.List.{List, [], _∷_}
 
--- A fault is a broken rule with its place, as one number. Places are below 65,536, so that the order of the numbers is
--- the order of document 01: the lowest rule first, and for it the smallest place.
+-- A fault is a broken rule with its place, as one number. Places are below 65,536, so that the least number is the fault that is given
+-- (docs/RULES.md, "The answer").
 unfoldable pub fault : ℕ → ℕ → ℕ
 fault rule place = rule * 65536 + place
 

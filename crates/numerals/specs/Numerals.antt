@@ -1,4 +1,4 @@
--- JSON numerals by their value (RFC 8259, section 6; document 01, rules 12 and 13). The definitions take any bytes; what they make of bytes
+-- JSON numerals by their value (RFC 8259, section 6; docs/RULES.md, rules 12 and 13). The definitions take any bytes; what they make of bytes
 -- that are no numeral matters nowhere.
 use Prim.Native.Nat.{ℕ, zero, suc, _+_, _-_, _*_, _^_}
 use mathlib.Core.Bool.{Bool, true, false, cond, not, _&&_, _||_}
@@ -51,7 +51,7 @@ signed false n = pos n
 
 -- ---- integers
 
--- "An integer is a JSON number with no fraction and no exponent part" (rule 12)
+-- rule 12: "An integer is a JSON number with no fraction and no exponent part"
 unfoldable pub isInteger : List ℕ → Bool
 unfolding isPoint isLetter
 isInteger [] = true
@@ -67,7 +67,7 @@ unfoldable pub fits32 : ℤ → Bool
 fits32 (pos n) = ltb n (2 ^ 31)
 fits32 (negsuc n) = ltb n (2 ^ 31)
 
--- is an integer one of 0, 1, .., count - 1?
+-- is an integer "at least 0 and below" the count (rule 13)?
 unfoldable pub isBelow : ℕ → ℤ → Bool
 isBelow count (pos n) = ltb n count
 isBelow count (negsuc n) = false
@@ -103,16 +103,17 @@ exponent raw = signed (negative (after isLetter raw)) (natural 0 (digits (after 
 abbrev pub none-yet : Trimmed
 none-yet = record { m = 0; zeros = 0 }
 
--- the value of a numeral as the one pair (m, e), meaning m times ten to the e, that is (0, 0) or whose m is no multiple of ten (rule 13)
+-- the pair of trimmed digits with a sign and an exponent
 unfoldable pub scaled : Bool → Trimmed → ℤ → Decimal
 unfolding signed
 scaled neg t e = cond (eqb (t .m) 0) (record { m = pos 0; e = pos 0 }) (record { m = signed neg (t .m); e = pos (t .zeros) +ℤ e })
 
+-- rule 13: "a pair (m, e), meaning m times ten to the e: zero is (0, 0); otherwise m isn't a multiple of ten"
 unfoldable pub decimal : List ℕ → Decimal
 unfolding scaled trimmed digits mantissa negative exponent places
 decimal raw = scaled (negative raw) (trimmed none-yet (digits (mantissa raw))) (exponent raw -ℤ pos (places raw))
 
--- "The absolute value of m is below 10^15 and e lies from -22 to 22" (rule 13)
+-- rule 13: "The absolute value of m is below 10^15 and e lies from -22 to 22"
 unfoldable pub inRange : Decimal → Bool
 inRange d = ltb (natAbs (d .m)) (10 ^ 15) && leb (natAbs (d .e)) 22
 

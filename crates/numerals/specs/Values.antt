@@ -203,7 +203,7 @@ by-value raw raw′ =
       (λ s. one-pair (decimal raw) (decimal raw′) (canonical raw) (canonical raw′) (value-trans (value-sym h) (value-trans s h′))),
     )
 
--- the pair of a numeral, in document 01's words (rule 13): the one of that form and in range that has the value that the numeral writes
+-- the pair of a numeral, as rule 13 of docs/RULES.md says it: the one of that form and in range that has the value that the numeral writes
 pub pair-exactly : (raw : List ℕ) (d : Decimal) → (pairOf raw ≡ some d) ↔ (Canonical d × (inRange d ≡ true) × SameValue (asWritten raw) d)
 unfolding pairOf
 pair-exactly raw d = ((λ e. to (inRange (decimal raw)) refl e), from)

@@ -1,2 +1,2 @@
--- The rules of document 01 and their numbers.
+-- The rules of docs/RULES.md and their numbers.
 pub mod Refusals

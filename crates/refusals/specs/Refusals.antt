@@ -1,11 +1,11 @@
--- The rules of document 01 and their numbers.
+-- The rules of docs/RULES.md and their numbers.
 use Prim.Native.Nat.{ℕ}
 use Rattle.verdict.specs.Verdict as verdict
 use Rattle.refusals.specs.declared.Broken.{Broken}
 use Rattle.refusals.specs.declared.Broken.the-variants as broken
 use Rattle.refusals.specs.declared.Refusal.{Refusal}
 
--- the number of a rule
+-- "a definition that gives this paper's number .. for each case"
 unfoldable pub ruleNumber : Broken → ℕ
 ruleNumber broken.TooLong = 1
 ruleNumber broken.NotUtf8 = 2

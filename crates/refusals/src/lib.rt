@@ -1,11 +1,11 @@
-// Refusals: the rules of document 01 with their numbers, and the refusal of a fault.
+// Refusals: the rules of docs/RULES.md with their numbers, and the refusal of a fault.
 ghost use Prim.Native.Nat.{_*_, _/_, _%_, _≤_, _<_};
 ghost use mathlib.Core.Path.{_≡_};
 ghost use Rattle.nodes.specs.Faults.{noFault, ruleOf, placeIn};
 ghost use Rattle.verdict.specs.Verdict.{refused};
 ghost use Rattle.refusals.specs.Refusals.{ruleNumber, refusal};
 
-// The rules of document 01 that a text can break.
+// The rules that a text can break.
 pub enum Broken {
     TooLong,
     NotUtf8,
@@ -66,7 +66,7 @@ pub fn refuse_fault(fault: u32) -> Refusal
     }
 }
 
-// The paper's number of a rule.
+// The number of a rule.
 pub fn number_of(rule: Broken) -> u32
     ensures { λ r. ⌜ r ≡ ruleNumber rule ⌝ }
 {

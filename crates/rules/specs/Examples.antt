@@ -1,4 +1,4 @@
--- Rules 15 to 17 of document 01 decided by computation: the least fault of the links in the tree of a small text.
+-- Rules 15 to 17 of docs/RULES.md decided by computation: the least fault of the links in the tree of a small text.
 use Prim.Native.Nat.{ℕ}
 use mathlib.Core.Path.{_≡_, refl}
 use mathlib.Core.List.{List}

@@ -1,4 +1,4 @@
--- Rules 15 to 17 of document 01, over the IDs of the city objects as decoded: all places at which a tree breaks them.
+-- Rules 15 to 17 of docs/RULES.md, over the IDs of the city objects as decoded: all places at which a tree breaks them.
 use Prim.Native.Nat.{ℕ}
 use Prim.Native.String.{String}
 use mathlib.Core.Bool.{Bool, false, cond, not, _&&_, _||_}
@@ -24,8 +24,8 @@ idsIn name option.none = []
 idsIn name (some o) = idsAmong (listedIn name o)
 
 -- a link from the object `id` to the object that the string s names, whose other side is listed under `back`:
--- 15: the linked ID is absent from the objects, or listed before in the same list, at that string
--- 17: the linked object does not list this one, at that string; `excused`: it need not
+-- rule 15: "linked ID absent from the objects, or listed before in the same list" at "that string";
+-- rule 17: "one-sided link" at "the listed string"; `excused`: the linked object need not list this one
 unfoldable pub link : List Member → String → List ℕ → Bool → List (List ℕ) → Json → List ℕ
 unfolding unless isSome among idsIn firstNamed textOf
 link objects back id excused earlier s =
@@ -41,12 +41,12 @@ linksFrom objects back id excused earlier (s ∷ ss) =
     cond (isStringValue s) (link objects back id excused earlier s) []
     ++ linksFrom objects back id excused (idsAmong (s ∷ []) ++ earlier) ss
 
--- 16: a second-level object with no parent listed, at the object
+-- rule 16: "second-level object with no parent listed" at "the object"
 unfoldable pub parentLink : Json → List ℕ
 unfolding unless isSecondLevel codeOf objectWords typeText isEmpty listedIn
 parentLink o = unless (not (isSecondLevel (codeOf objectWords (typeText o)) && isEmpty (listedIn "parents" o))) 16 o
 
--- "A listed parent must list the object as child. A listed child must list the object as parent, unless the object is a `CityObjectGroup`."
+-- rule 17: "A listed parent must list the object as child. A listed child must list the object as parent, unless the object is a `CityObjectGroup`."
 unfoldable pub linksOf : List Member → Member → List ℕ
 unfolding linksFrom listedIn parentLink is typeText nameOf
 linksOf objects m =

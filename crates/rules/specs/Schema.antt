@@ -1,4 +1,4 @@
--- Rules 7 to 14 of document 01, as a schema: all places at which a tree breaks them.
+-- Rules 7 to 14 of docs/RULES.md, as a schema: all places at which a tree breaks them.
 use Prim.Native.Nat.{ℕ}
 use Prim.Native.String.{String}
 use mathlib.Core.Bool.{Bool, cond, not, _||_}
@@ -17,8 +17,9 @@ use Rattle.fields.specs.Fields.{typeText, countIn}
 use Rattle.shapes.specs.Checks.{Check, all, at, eachElement, eachMember, objectKind, stringKind, numberKind, arrayKind, needs, text, isEmpty}
 use Rattle.shapes.specs.Shapes.{threeEntries, pairRange, vertex, shaped, ranged, matches}
 
--- ---- words (rules 10 and 11)
+-- ---- words
 
+-- rule 10: "types from the lists below or, for a geometry or a city object, those of rule 11"
 unfoldable pub isObjectType : List ℕ → Bool
 unfolding isOne objectWords isAdded
 isObjectType t = isOne objectWords t || isAdded t
@@ -27,11 +28,17 @@ unfoldable pub isGeometryType : List ℕ → Bool
 unfolding isOne geometryWords is
 isGeometryType t = isOne geometryWords t || is "GeometryInstance" t
 
+-- rule 10: "A surface type may instead be `+` and at least one more byte"
 unfoldable pub isSurfaceType : List ℕ → Bool
 unfolding isOne surfaceWords isAddedName
 isSurfaceType t = isOne surfaceWords t || isAddedName t
 
 -- ---- the schema
+
+-- rule 7, below: "Object: root, `transform`, `CityObjects`, each city object, `attributes`, each geometry, `semantics`, each surface.
+-- String: the `type` of the root, of a city object, a geometry and a surface, `version`, `lod`, each entry of a city object's `children` and `parents`.
+-- Number: each entry of `scale` and `translate`.
+-- .. Array: `scale`, `translate`, `vertices`, `geometry`, `children`, `parents`, `boundaries`, `surfaces`, `values`."
 
 -- a string that is this word
 unfoldable pub oneWord : List ℕ → Check
@@ -42,12 +49,13 @@ unfoldable pub word : String → Check
 unfolding oneWord ascii
 word w = oneWord (ascii w)
 
--- a city object's type
+-- a city object's type; rule 11: "not carried: .. an object type beginning `+`" at "the value"
 unfoldable pub objectType : Check
 unfolding all stringKind text isObjectType isAdded
 objectType = all (stringKind ∷ text 10 isObjectType ∷ text 11 (λ w. not (isAdded w)) ∷ [])
 
--- the type of a geometry, whose code (0: none) is given, of an object whose type has a code
+-- the type of a geometry, whose code (0: none) is given, of an object whose type has a code; rule 11: "not carried: `GeometryInstance`";
+-- rule 14: "geometry type not permitted for the object type" at "geometry's `type` value"
 unfoldable pub geometryType : ℕ → ℕ → Check
 unfolding all stringKind text isGeometryType is isPermitted
 geometryType object code =
@@ -61,7 +69,8 @@ unfoldable pub surfaceType : Check
 unfolding all stringKind text isSurfaceType
 surfaceType = all (stringKind ∷ text 10 isSurfaceType ∷ [])
 
--- the boundary of a geometry whose type has this code (0: none), with so many vertices
+-- the boundary of a geometry whose type has this code (0: none), with so many vertices;
+-- rule 13: "A boundary index is at least 0 and below the vertex count"
 unfoldable pub boundary : ℕ → ℕ → Check
 unfolding shaped ranged depth
 boundary vertices code v = cond (eqb code 0) [] (shaped (depth code) v ++ ranged vertices (depth code) v)
@@ -70,6 +79,7 @@ unfoldable pub boundaries : ℕ → ℕ → Check
 unfolding all arrayKind boundary
 boundaries vertices code = all (arrayKind ∷ boundary vertices code ∷ [])
 
+-- rule 8: "Surface: `type`"
 unfoldable pub surface : Check
 unfolding all objectKind needs at surfaceType
 surface = all (objectKind ∷ needs ("type" ∷ []) ∷ at "type" surfaceType ∷ [])
@@ -78,7 +88,8 @@ unfoldable pub surfaces : Check
 unfolding all arrayKind eachElement surface
 surfaces = all (arrayKind ∷ eachElement surface ∷ [])
 
--- `values` over a boundary, with so many surfaces: "it is judged only if the geometry's boundary is well shaped"
+-- `values` over a boundary, with so many surfaces; rule 12: "it is judged only if the geometry's boundary is well shaped";
+-- rule 13: "a semantic value likewise for the surfaces"
 unfoldable pub overBoundary : ℕ → ℕ → Option Json → Check
 unfolding matches ranged valuesDepth shaped depth isEmpty
 overBoundary count code option.none v = []
@@ -90,6 +101,7 @@ unfoldable pub values : ℕ → ℕ → Option Json → Check
 unfolding all arrayKind overBoundary
 values count code b = all (arrayKind ∷ overBoundary count code b ∷ [])
 
+-- rule 8: "Semantics: `surfaces`, `values`"
 unfoldable pub semantics : ℕ → Option Json → Check
 unfolding all objectKind needs at surfaces values countIn find
 semantics code b v =
@@ -98,12 +110,12 @@ semantics code b v =
     ∷ at "values" (values (countIn (find "surfaces" v)) code b)
     ∷ []) v
 
--- a geometry needs a lod unless it is a `GeometryInstance`
+-- rule 8: "`lod` unless the type is `GeometryInstance`"
 unfoldable pub needsLod : Check
 unfolding is typeText needs
 needsLod v = cond (is "GeometryInstance" (typeText v)) [] (needs ("lod" ∷ []) v)
 
--- a geometry of an object whose type has this code, with so many vertices
+-- a geometry of an object whose type has this code, with so many vertices; rule 8: "Geometry: `type`, `boundaries`"
 unfoldable pub geometry : ℕ → ℕ → Check
 unfolding all objectKind needs needsLod at geometryType lod codeOf geometryWords typeText boundaries semantics find
 geometry vertices object v =
@@ -124,6 +136,7 @@ unfoldable pub links : Check
 unfolding all arrayKind eachElement stringKind
 links = all (arrayKind ∷ eachElement stringKind ∷ [])
 
+-- rule 8: "City object: `type`"
 unfoldable pub cityObject : ℕ → Check
 unfolding all objectKind needs at objectType links geometries codeOf objectWords typeText
 cityObject vertices v =
@@ -135,12 +148,13 @@ cityObject vertices v =
     ∷ at "geometry" (geometries vertices (codeOf objectWords (typeText v)))
     ∷ []) v
 
--- 9: more than 1,024 city objects, at the name of the 1,025th
+-- the fault of rule 9 at the first of these members, if there is one
 unfoldable pub nameFault : List Member → List ℕ
 unfolding fault
 nameFault [] = []
 nameFault (m ∷ ms) = fault 9 (m .0 .place) ∷ []
 
+-- rule 9: "more than 1,024 city objects" at the "name of the 1,025th"
 unfoldable pub objectLimit : Check
 unfolding nameFault members
 objectLimit v = nameFault (drop 1024 (members v))
@@ -154,6 +168,7 @@ unfoldable pub threePairs : Check
 unfolding all arrayKind eachElement numberKind threeEntries pairRange
 threePairs = all (arrayKind ∷ eachElement numberKind ∷ threeEntries ∷ eachElement pairRange ∷ [])
 
+-- rule 8: "Transform: `scale`, `translate`"
 unfoldable pub transform : Check
 unfolding all objectKind needs at threePairs
 transform = all (objectKind ∷ needs ("scale" ∷ "translate" ∷ []) ∷ at "scale" threePairs ∷ at "translate" threePairs ∷ [])
@@ -162,7 +177,7 @@ unfoldable pub vertices : Check
 unfolding all arrayKind eachElement vertex
 vertices = all (arrayKind ∷ eachElement vertex ∷ [])
 
--- the root
+-- rule 8: "Root: `type`, `version`, `transform`, `CityObjects`, `vertices`"; rule 10: "Root type `CityJSON`, version `2.0`"
 unfoldable pub cityJson : Check
 unfolding all objectKind needs at word transform cityObjects vertices countIn find
 cityJson v =

@@ -1,1 +1,1 @@
-// Rules 7 to 17 of document 01: definitions and examples. There is no code here.
+// Rules 7 to 17 of docs/RULES.md: definitions and examples. There is no code here.

@@ -1,2 +1,2 @@
--- Rules 7 to 14 of document 01 as a schema.
+-- Rules 7 to 14 of docs/RULES.md as a schema.
 pub mod Says

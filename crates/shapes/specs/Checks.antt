@@ -1,4 +1,4 @@
--- Checks of a value, each of which lists all faults that it finds.
+-- Checks of a value by docs/RULES.md.
 use Prim.Native.Nat.{ℕ}
 use Prim.Native.String.{String}
 use mathlib.Core.Bool.{Bool, true, false, cond, not, _||_}
@@ -28,7 +28,7 @@ unfoldable pub on : Check → Option Json → List ℕ
 on c option.none = []
 on c (some v) = c v
 
--- a check of the member of that name, if the value is an object that has one
+-- a check of the member of that name, if the value is an object that has one; rule 7: "A name counts only in the object it belongs to"
 unfoldable pub at : String → Check → Check
 unfolding on find
 at name c v = on c (find name v)
@@ -53,7 +53,7 @@ unfoldable pub eachMember : Check → Check
 unfolding forEach values members
 eachMember c v = forEach c (values (members v))
 
--- rule 7: wrong JSON kind, at the value
+-- rule 7: "wrong JSON kind" at "the value"
 unfoldable pub objectKind : Check
 unfolding unless isObjectValue
 objectKind v = unless (isObjectValue v) 7 v
@@ -78,18 +78,18 @@ unfoldable pub isEmpty : {A : Type 0} → List A → Bool
 isEmpty [] = true
 isEmpty (v ∷ vs) = false
 
--- rule 8: required member absent, at the object; of a value of another kind it says nothing, since rule 7 has a fault there
+-- rule 8: "required member absent" at "the object"; of a value of another kind it says nothing, since rule 7 has a fault there
 unfoldable pub needs : List String → Check
 unfolding unless isSome find isObjectValue
 needs [] v = []
 needs (n ∷ ns) v = unless (not (isObjectValue v) || isSome (find n v)) 8 v ++ needs ns v
 
--- a rule about a string's text, at the string; of a value of another kind it says nothing
+-- a rule about a string's text, as 10, "wrong word" at "the value"; of a value of another kind it says nothing
 unfoldable pub text : ℕ → (List ℕ → Bool) → Check
 unfolding unless isStringValue textOf
 text rule ok v = unless (not (isStringValue v) || ok (textOf v)) rule v
 
--- a rule about a numeral's bytes, at the number; of a value of another kind it says nothing
+-- a rule about a numeral's bytes, as 13, "number out of range" at "the number"; of a value of another kind it says nothing
 unfoldable pub numeral : ℕ → (List ℕ → Bool) → Check
 unfolding unless isNumberValue numeralOf
 numeral rule ok v = unless (not (isNumberValue v) || ok (numeralOf v)) rule v

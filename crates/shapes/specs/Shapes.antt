@@ -1,4 +1,4 @@
--- Rules 12 and 13 of document 01: shapes of nested arrays and ranges of numbers.
+-- Rules 12 and 13 of docs/RULES.md: shapes of nested arrays and ranges of numbers.
 use Prim.Native.Nat.{ℕ, zero, suc}
 use mathlib.Core.Bool.{Bool, true, false, cond, not, _&&_, _||_}
 use mathlib.Core.List.{List, [], _∷_, _++_}
@@ -23,12 +23,12 @@ unfolding isIntegerValue
 allIntegers [] = true
 allIntegers (v ∷ vs) = isIntegerValue v && allIntegers vs
 
--- 12: `scale` and `translate` hold three numbers, at the array
+-- rule 12: "`scale` and `translate` hold three numbers (place: the array)"
 unfoldable pub threeEntries : Check
 unfolding unless isArrayValue elements
 threeEntries v = unless (not (isArrayValue v) || eqb (length (elements v)) 3) 12 v
 
--- 13: a transform number is a pair in range, at the number
+-- rule 13: "A numeral that cannot be read as such a pair is refused 13"
 unfoldable pub pairRange : Check
 unfolding numeral isSome pairOf
 pairRange = numeral 13 (λ raw. isSome (pairOf raw))
@@ -43,26 +43,27 @@ unfoldable pub pairOrFault : Json → Decimal ⊎ ℕ
 unfolding orFault pairOf numeralOf
 pairOrFault v = orFault v (pairOf (numeralOf v))
 
--- 12: a vertex is an array of three integers, at the element of `vertices`; 13: each fits 32 signed bits, at the number
 unfoldable pub isTriple : Json → Bool
 unfolding isArrayValue elements allIntegers
 isTriple v = isArrayValue v && eqb (length (elements v)) 3 && allIntegers (elements v)
 
+-- rule 13: "Vertex integers fit 32 signed bits"
 unfoldable pub coordinate : Check
 unfolding numeral fits32 integer
 coordinate = numeral 13 (λ raw. fits32 (integer raw))
 
+-- rule 12: "Each vertex is an array of three integers (place: that element of `vertices`)"
 unfoldable pub vertex : Check
 unfolding unless isTriple eachElement coordinate
 vertex v = cond (isTriple v) (eachElement coordinate v) (unless false 12 v)
 
--- 12: arrays down to the depth, where integers stand, at the wrong element
+-- rule 12: "Boundaries are arrays down to the depth of their type, where integers stand (place: the first wrong element)"
 unfoldable pub shaped : ℕ → Check
 unfolding unless isIntegerValue isArrayValue forEach elements
 shaped zero v = unless (isIntegerValue v) 12 v
 shaped (suc d) v = unless (isArrayValue v) 12 v ++ forEach (shaped d) (elements v)
 
--- 13: each integer at that depth is at least 0 and below the count, at the number
+-- rule 13 for each integer at that depth, with a count that it is below
 unfoldable pub ranged : ℕ → ℕ → Check
 unfolding numeral isBelow integer forEach elements
 ranged count zero v = numeral 13 (λ raw. isBelow count (integer raw)) v
@@ -74,8 +75,8 @@ forBoth c [] ws = []
 forBoth c (v ∷ vs) [] = []
 forBoth c (v ∷ vs) (w ∷ ws) = c v w ++ forBoth c vs ws
 
--- 12: `values` has the boundary's count at each of its levels, at the array that differs;
--- arrays above its last level and integers or null there, at the element
+-- rule 12: "`values` has the same count as the boundary at each of its levels (place: the array that differs), arrays above its last level
+-- and integers or `null` there (place: the element)"
 unfoldable pub matches : ℕ → Json → Check
 unfolding unless isIntegerValue isNullValue isArrayValue forBoth elements
 matches zero b v = unless (isIntegerValue v || isNullValue v) 12 v

@@ -1,5 +1,5 @@
 -- The strings and names of an accepted text stand for whole characters, so the IDs, the links and the added names of its model are UTF-8
--- (document 01: an object is laid with "the ID in UTF-8").
+-- (docs/SHEET.md; the paper: "then the ID in UTF-8").
 use Prim.Native.Nat.{ℕ, _+_, _-_}
 use Prim.Native.String.{String}
 use native.Mathlib.Omega.{arith}

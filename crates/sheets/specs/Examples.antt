@@ -1,4 +1,4 @@
--- The sheets of two sample texts of document 01, and rooms that are cleared, by computation.
+-- The sheets of two sample texts (docs/TRACE.md), and rooms that are cleared, by computation.
 use Prim.Native.Nat.{ℕ}
 use mathlib.Core.Path.{_≡_, refl}
 use mathlib.Core.List.{List, [], _∷_, _++_}
@@ -48,7 +48,7 @@ minimal-short : lays minimal 77 ≡ refused 18 0
 unfolding lays minimal
 minimal-short = refl
 
--- records of kinds 1, 2 and 9, of 66, 6 and 6 bytes
+-- "Its sheet is kinds 1, 2 and 9 of 66, 6 and 6 bytes"
 minimal-sheet : sheetOfText minimal ≡
     60 ∷ 0 ∷ 0 ∷ 0 ∷ 1 ∷ 0
     ∷ 1 ∷ 0 ∷ 0 ∷ 0 ∷ 0 ∷ 0 ∷ 0 ∷ 0 ∷ 0 ∷ 0 ∷ 1 ∷ 0 ∷ 0 ∷ 0 ∷ 0 ∷ 0 ∷ 0 ∷ 0 ∷ 0 ∷ 0 ∷ 1 ∷ 0 ∷ 0 ∷ 0 ∷ 0 ∷ 0 ∷ 0 ∷ 0 ∷ 0 ∷ 0
@@ -63,7 +63,7 @@ minimal-after : roomAfter minimal 80 ≡ sheetOfText minimal ++ 0 ∷ 0 ∷ []
 unfolding lays minimal
 minimal-after = refl
 
--- document 01's kiosk
+-- "One CityFurniture named `kiosk` with a MultiPoint `[0]` over one vertex lays 133 bytes"
 unfoldable kioskText : List ℕ
 unfolding ascii
 kioskText =

@@ -1,4 +1,4 @@
--- A tree with no fault reads as a good model: what rules 7, 8, 10, 11, 12, 13 and 15 of document 01 give.
+-- A tree with no fault reads as a good model: what rules 7, 8, 10, 11, 12, 13 and 15 of docs/RULES.md give.
 use Prim.Native.Nat.{ℕ, zero, suc, _-_, _≤_, _<_}
 use Prim.Native.String.{String}
 use native.Mathlib.Omega.{arith}

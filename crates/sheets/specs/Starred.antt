@@ -1,4 +1,4 @@
--- The starred sample readings of document 01, one table under one statement.
+-- "The starred readings are one table under one statement about the definitions" (docs/TRACE.md, "Sample readings").
 use Prim.Native.Nat.{ℕ}
 use mathlib.Core.Path.{_≡_, refl}
 use mathlib.Core.List.{List, [], _∷_, map}

@@ -1,4 +1,4 @@
--- What is proved of lay's answers and of the lent sheet, for texts and rooms of any sizes (document 01, demands 2 and 3 and "Town and sheet").
+-- What is proved of lay's answers and of the lent sheet, for texts and rooms of any sizes (promises 2 and 3 of README.md).
 use Prim.Native.Nat.{ℕ, _-_, _^_, _≤_, _<_}
 use native.Mathlib.Omega.{arith}
 use mathlib.Core.Path.{_≡_, refl, sym, ap, _∙_}
@@ -29,7 +29,7 @@ use Rattle.sheets.specs.Clear.{objects-members}
 use Rattle.sheets.specs.Characters.{WholeTexts, whole-strings, whole-model}
 use Rattle.sheets.specs.Answers.{good-text, distinct-names, object-count, of-laid, holds-sheet, begins-sheet, holds-zeros, room-length, same-answer, same-room, too-long, does-not-fit}
 
--- an accepted text's model is as document 01 asks (rules 10, 12, 13 and 15), and its sheet is shorter than 2^32 bytes
+-- an accepted text's model is as docs/RULES.md asks (rules 10, 12, 13 and 15), and its sheet is shorter than 2^32 bytes
 pub good : (x : List ℕ) (n : ℕ) → verdict x ≡ accepted n → GoodModel (modelOfText x)
 good = good-text
 
@@ -53,7 +53,7 @@ sizes x r l n e =
     let q = of-laid x r l n e in
     (q .size, q .fits, rw (q .size) (good x n (q .accepted) .short), count x n (q .accepted))
 
--- demand 3: the bytes that two acceptances give tell their models
+-- promise 3: the bytes that two acceptances give tell their models
 pub tells : (x y : List ℕ) (r s l m n k : ℕ) → answer x r ≡ laid l n → answer y s ≡ laid m k
     → (take l (roomAfter x r) ≡ take m (roomAfter y s)) ↔ (modelOfText x ≡ modelOfText y)
 unfolding sheetOfText
@@ -85,7 +85,7 @@ room = room-length
 pub eighteen : (x : List ℕ) (r : ℕ) → (answer x r ≡ refused 18 0) ↔ (((n : ℕ) × (verdict x ≡ accepted n)) × (r < length (sheetOfText x)))
 eighteen x r = (too-long x r, (λ ((n, e), h). does-not-fit x r n e h))
 
--- demand 2 for lay: a text is laid exactly if it breaks no rule and its sheet fits, and the answer is the sheet's length and the object count
+-- promise 2 for lay: a text is laid exactly if it breaks no rule and its sheet fits, and the answer is the sheet's length and the object count
 pub laid-exactly : (x : List ℕ) (r l n : ℕ)
     → (answer x r ≡ laid l n) ↔ (BreaksNone x × (l ≡ length (sheetOfText x)) × (l ≤ r) × (n ≡ length (modelOfText x .objects)))
 unfolding answer fitted

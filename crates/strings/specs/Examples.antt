@@ -17,7 +17,7 @@ pair-is-paired : unpairedFrom 1 (92 ∷ 117 ∷ 68 ∷ 56 ∷ 51 ∷ 68 ∷ 92 �
 unfolding unpairedFrom
 pair-is-paired = refl
 
--- document 01's sample "\uD800": 5 at 1
+-- the sample reading "\uD800": 5 at 1
 high-alone : unpairedFrom 1 (92 ∷ 117 ∷ 68 ∷ 56 ∷ 48 ∷ 48 ∷ []) ≡ 1 ∷ []
 unfolding unpairedFrom
 high-alone = refl

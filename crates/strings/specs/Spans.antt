@@ -25,7 +25,7 @@ unfoldable pub decodeAt : List ℕ → ℕ → ℕ → List ℕ
 unfolding decode
 decodeAt x at end = decode (slice at end x)
 
--- the places of the unpaired surrogate escapes among the bytes of x from at up to end (document 01, rule 5)
+-- the places of the unpaired surrogate escapes among the bytes of x from at up to end (docs/RULES.md, rule 5)
 unfoldable pub unpairedAt : List ℕ → ℕ → ℕ → List ℕ
 unfolding unpairedFrom
 unpairedAt x at end = unpairedFrom at (slice at end x)

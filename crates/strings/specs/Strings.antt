@@ -82,7 +82,7 @@ unpaired (unit p u ∷ []) = alone p u
 unpaired (unit p u ∷ byte b ∷ ps) = alone p u ++ unpaired ps
 unpaired (unit p u ∷ unit q w ∷ ps) = elim (isHigh u && isLow w) [ true ↦ unpaired ps | false ↦ alone p u ++ unpaired (unit q w ∷ ps) ]
 
--- the places of the unpaired surrogate escapes of a string whose bytes between the quotes begin at n (document 01, rule 5: each at its backslash)
+-- docs/RULES.md, rule 5: "unpaired surrogate escape" at "its backslash", in a string whose bytes between the quotes begin at n
 unfoldable pub unpairedFrom : ℕ → List ℕ → List ℕ
 unfolding pieces unpaired
 unpairedFrom n raw = unpaired (pieces plain n raw)

@@ -15,7 +15,7 @@ use Rattle.utf8.specs.Laws.{clash, Form, form, encode-one}
 use Rattle.utf8.specs.Laws.Form.{one, two, three, four}
 use Rattle.utf8.specs.Meaning.{whole-prefix}
 
--- a text that rule 2 of document 01 lets through is a sequence of characters
+-- a text that rule 2 of docs/RULES.md lets through is a sequence of characters
 pub whole-text : (x : List ℕ) → length x ≤ wholeLength x → Whole x
 whole-text x h = rw (take-all (wholeLength x) x h) at (whole-prefix x)
 

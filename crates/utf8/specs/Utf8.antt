@@ -23,7 +23,7 @@ encode c =
     (cond (ltb c 0x10000) ((0xE0 + c / 4096) ∷ tail (c / 64) ∷ tail c ∷ [])
     ((0xF0 + c / 262144) ∷ tail (c / 4096) ∷ tail (c / 64) ∷ tail c ∷ [])))
 
--- a sequence of characters
+-- "UTF-8 is RFC 3629": a sequence of characters
 pub data Whole : List ℕ → Type 0 where
   nil : Whole []
   next : (c : ℕ) {s x : List ℕ} → isCharacter c ≡ true → x ≡ encode c ++ s → Whole s → Whole x
@@ -69,7 +69,7 @@ wholeFrom k [] = 0
 wholeFrom (suc k) (b ∷ s) = wholeFrom k s
 wholeFrom zero (b ∷ s) = onward (size (b ∷ s)) (λ k. wholeFrom k s)
 
--- the length of the longest prefix of whole characters (document 01, rule 2)
+-- docs/RULES.md, rule 2: "length of the longest prefix of whole characters"
 unfoldable pub wholeLength : List ℕ → ℕ
 unfolding wholeFrom
 wholeLength s = wholeFrom zero s

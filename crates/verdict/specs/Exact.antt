@@ -1,4 +1,5 @@
--- The verdict is the lowest broken rule at its earliest place, and a text is accepted exactly if it breaks no rule (document 01, demand 2 for judge).
+-- The verdict is the lowest broken rule (docs/RULES.md) at its earliest place, and a text is accepted exactly if it breaks no rule
+-- (promise 2 of README.md, for judge).
 use Prim.Native.Nat.{ℕ, _+_, _*_, _/_, _%_, _≤_, _<_, min}
 use native.Mathlib.Omega.{arith}
 use native.Mathlib.Decide.{decLt}
@@ -23,7 +24,7 @@ use Rattle.model.specs.Lists.{one-of}
 use Rattle.verdict.specs.Verdict.{Verdict, accepted, refused, faults, given, judged, parsed, verdict}
 use Rattle.verdict.specs.Places.{Small, Placed, faults-small}
 
--- the longest prefix of x that begins some JSON text of at most 32 levels has n bytes
+-- rules 3 and 4: "let n be the longest prefix that begins some JSON text and never has more than 32 levels open"
 pub record Longest (x : List ℕ) (n : ℕ) : Type 0 where
   pub inside : n ≤ length x
   pub begins : Begins 32 (take n x)
@@ -248,7 +249,7 @@ cases x = by (decLt 65535 (length x)) (decLt (wholeLength x) (length x)) (read x
     by (no h) (no k) (bad p) e = rw (verdict-read x (omega arith) (omega arith), e) (of-bad x (omega arith) (omega arith) p e)
     by (no h) (no k) (tooDeep p) e = rw (verdict-read x (omega arith) (omega arith), e) (of-deep x (omega arith) (omega arith) p e)
 
--- ---- demand 2 for judge
+-- ---- promise 2 for judge
 
 -- a refusal's rule is broken at that place, no lower rule is broken, and that rule nowhere earlier
 pub refused-least : (x : List ℕ) (r p : ℕ) → verdict x ≡ refused r p → Least x r p

@@ -1,4 +1,4 @@
--- Verdicts by computation: the sample reading of document 01 that has no star, two texts that are accepted, and two that rules 3 and 4 refuse.
+-- Verdicts by computation: the sample reading (docs/TRACE.md) that has no star, two texts that are accepted, and two that rules 3 and 4 refuse.
 -- The starred readings are in `sheets`.
 use Prim.Native.Nat.{ℕ}
 use mathlib.Core.Path.{_≡_, refl}
@@ -24,6 +24,7 @@ open-33 : Least (replicate 33 91) 4 32
 unfolding judges
 open-33 = refused-least (replicate 33 91) 4 32 refl
 
+-- the sample reading "32 `[` then 32 `]`": 7 at 0
 closed-32 : judges (replicate 32 91 ++ replicate 32 93) ≡ refused 7 0
 unfolding judges
 closed-32 = refl
@@ -39,7 +40,7 @@ minimal : judges minimalText ≡ accepted 0
 unfolding judges minimalText
 minimal = refl
 
--- document 01's kiosk
+-- the kiosk of the sample readings
 unfoldable kioskText : List ℕ
 unfolding ascii
 kioskText =

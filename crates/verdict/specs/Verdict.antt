@@ -1,4 +1,4 @@
--- The verdict of a text (document 01, section "Verdict and place").
+-- The verdict of a text (docs/RULES.md, "The answer").
 use Prim.Native.Nat.{ℕ, _+_}
 use mathlib.Core.Bool.{cond}
 use mathlib.Core.List.{List, _++_, map}
@@ -14,7 +14,7 @@ use Rattle.fields.specs.Fields.{objectsOf}
 use Rattle.rules.specs.Schema.{cityJson}
 use Rattle.rules.specs.Links.{linkFaults}
 
--- acceptance gives the object count; a refusal carries its number and its place together
+-- "Acceptance gives .. the object count. Otherwise a refusal carries its number and its place together"
 pub data Verdict : Type 0 where
   accepted : (objects : ℕ) → Verdict
   refused : (rule place : ℕ) → Verdict
@@ -24,11 +24,12 @@ unfoldable pub faults : Json → List ℕ
 unfolding fault rule5 rule6 cityJson linkFaults
 faults v = map (fault 5) (rule5 v) ++ map (fault 6) (rule6 v) ++ cityJson v ++ linkFaults v
 
--- "The lowest broken number is given, and for it the smallest place"
+-- the verdict of the least fault
 unfoldable pub given : ℕ → ℕ → Verdict
 unfolding ruleOf placeIn
 given objects f = cond (ltb f noFault) (refused (ruleOf f) (placeIn f)) (accepted objects)
 
+-- "The lowest broken number is given, and for it the smallest place"
 unfoldable pub judged : Json → Verdict
 unfolding given least faults objectsOf
 judged v = given (length (objectsOf v)) (least noFault (faults v))
@@ -40,14 +41,14 @@ parsed (reads v) = judged v
 parsed (bad n) = refused 3 n
 parsed (tooDeep n) = refused 4 n
 
--- rules 1 and 2: the refusal by one of them, if there is one
+-- the refusal by rule 1, "more than 65,535 bytes" at "65,535", or by rule 2, "not UTF-8" at its place, if there is one
 unfoldable pub screening : List ℕ → Option Verdict
 unfolding wholeLength
 screening text =
     cond (ltb 65535 (length text)) (some (refused 1 65535))
     (cond (ltb (wholeLength text) (length text)) (some (refused 2 (wholeLength text))) none)
 
--- the verdict of a text: rules 1 and 2 come first
+-- "judge (text only)": rules 1 and 2 come first
 unfoldable pub verdict : List ℕ → Verdict
 unfolding screening parsed read
 verdict text = elim (screening text) [ some v ↦ v | none ↦ parsed (read text) ]

@@ -1,4 +1,4 @@
--- The words of document 01 with their codes.
+-- The words of docs/RULES.md with their codes.
 pub mod Words
 pub mod Tables
 pub mod Laws

@@ -1,4 +1,4 @@
--- The words of document 01, section "Types, depths and codes", once and in its order.
+-- The words of docs/RULES.md, section "Types, codes and permissions", once and in its order.
 use Prim.Native.Nat.{ℕ, _+_}
 use Prim.Native.String.{String}
 use mathlib.Core.Bool.{Bool, false, cond, _&&_, _||_}
@@ -8,7 +8,7 @@ use lib.Dec.{eqb, ltb}
 use Rattle.utf8.specs.Ascii.{ascii, isDigit}
 use Rattle.utf8.specs.Utf8.{same}
 
--- object types: the first level, codes 1 to 16, and the second level, 17 to 33
+-- "Objects, first level, codes 1 to 16: Bridge, .. Second level, 17 to 33: BridgePart, .."
 unfoldable pub objectWords : List String
 objectWords =
     "Bridge" ∷ "Building" ∷ "CityFurniture" ∷ "CityObjectGroup" ∷ "GenericCityObject" ∷ "LandUse" ∷ "OtherConstruction" ∷ "PlantCover"
@@ -17,11 +17,11 @@ objectWords =
     ∷ "BuildingPart" ∷ "BuildingInstallation" ∷ "BuildingConstructiveElement" ∷ "BuildingFurniture" ∷ "BuildingStorey" ∷ "BuildingRoom" ∷ "BuildingUnit"
     ∷ "TunnelPart" ∷ "TunnelInstallation" ∷ "TunnelConstructiveElement" ∷ "TunnelHollowSpace" ∷ "TunnelFurniture" ∷ []
 
--- geometry types, codes 1 to 7
+-- the table "Code | Geometry | Boundary depth | Values depth": the geometries, codes 1 to 7
 unfoldable pub geometryWords : List String
 geometryWords = "MultiPoint" ∷ "MultiLineString" ∷ "MultiSurface" ∷ "CompositeSurface" ∷ "Solid" ∷ "MultiSolid" ∷ "CompositeSolid" ∷ []
 
--- surface types, codes 1 to 18
+-- "Surfaces, 1 to 18: RoofSurface, .."
 unfoldable pub surfaceWords : List String
 surfaceWords =
     "RoofSurface" ∷ "GroundSurface" ∷ "WallSurface" ∷ "ClosureSurface" ∷ "OuterCeilingSurface" ∷ "OuterFloorSurface" ∷ "Window" ∷ "Door"
@@ -49,15 +49,16 @@ unfoldable pub is : String → List ℕ → Bool
 unfolding ascii same
 is word t = same (ascii word) t
 
--- the text begins with a plus sign; with a plus sign and at least one more byte
+-- rule 11: "beginning `+`"
 unfoldable pub isAdded : List ℕ → Bool
 isAdded t = eqb (getD t 0 0) 43
 
+-- rule 10: "`+` and at least one more byte"
 unfoldable pub isAddedName : List ℕ → Bool
 unfolding isAdded
 isAddedName t = isAdded t && ltb 1 (length t)
 
--- a digit, or digit, point, digit
+-- rule 10: "`lod` a digit, or digit, point, digit"
 unfoldable pub isLod : List ℕ → Bool
 unfolding isDigit
 isLod [] = false
@@ -70,18 +71,19 @@ isLod (a ∷ b ∷ c ∷ d ∷ t) = false
 unfoldable pub isSecondLevel : ℕ → Bool
 isSecondLevel code = ltb 16 code
 
--- boundary depth and values depth, by a geometry's code
+-- the columns "Boundary depth" and "Values depth", by a geometry's code
 unfoldable pub depth : ℕ → ℕ
 depth code = getD (0 ∷ 1 ∷ 2 ∷ 3 ∷ 3 ∷ 4 ∷ 5 ∷ 5 ∷ []) code 0
 
 unfoldable pub valuesDepth : ℕ → ℕ
 valuesDepth code = getD (0 ∷ 1 ∷ 1 ∷ 1 ∷ 1 ∷ 2 ∷ 3 ∷ 3 ∷ []) code 0
 
--- "Permitted": object types, and the codes of the geometries that each may have
+-- object types, and the codes of the geometries that each may have
 pub record Row : Type 0 where
   pub objects : List String
   pub geometries : List ℕ
 
+-- "Permitted: Bridge, ..: 3, 4, 5, 7. GenericCityObject: all but 6. LandUse: 3, 4. PlantCover: 3 to 7. TINRelief: 4. WaterBody: 2, 3, 4, 5, 7."
 unfoldable pub permittedRows : List Row
 permittedRows =
     record {

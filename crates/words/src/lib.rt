@@ -1,4 +1,4 @@
-// The words of document 01 and their codes.
+// The words of docs/RULES.md and their codes.
 ghost use Prim.Native.Nat.{_+_, _<_};
 ghost use mathlib.Core.Path.{_≡_};
 ghost use mathlib.Core.Bool.{true};

@@ -30,7 +30,7 @@ pub fn damaged(rule: u8, random: &mut Random) -> (Vec<u8>, Refusal, Option<Role>
     }
 }
 
-/// The roles at which a rule from 7 to 17 is broken, by the places that document 01 gives.
+/// The roles at which a rule from 7 to 17 is broken, by the places that docs/RULES.md gives.
 pub fn targets(rule: u8) -> Vec<Role> {
     let roles = Role::ALL.into_iter();
     match rule {
