@@ -5,7 +5,6 @@ use native.Mathlib.Omega.{arith}
 use mathlib.Core.Path.{_≡_}
 use mathlib.Core.List.{List, [], _∷_, _++_, map}
 use mathlib.Core.Option.{Option}
-use lib.ListN.{length}
 use Rattle.words.specs.Words.{codeOf, objectWords, geometryWords}
 use Rattle.json.specs.Tree.{Json, null}
 use Rattle.nodes.specs.Access.{Member, elements, members, find}
