@@ -12,16 +12,6 @@ use Rattle.grammar.specs.Induction.{Below, by-levels}
 use Rattle.grammar.specs.Order.{Spans, Row, Rows}
 use Rattle.grammar.specs.Order as o
 
--- a start that is no later
-row-from : {a a′ b : ℕ} {vs : Items} → a′ ≤ a → Row vs a b → Row vs a′ b
-row-from {a} {a′} {b} h (o.Row.end k) = o.Row.end {a = a′} {b = b} (omega arith)
-row-from {a} {a′} h (o.Row.next {p = p} k s t) = o.Row.next {a = a′} {p = p} (omega arith) s t
-
--- the same of members
-rows-from : {a a′ b : ℕ} {ms : Members} → a′ ≤ a → Rows ms a b → Rows ms a′ b
-rows-from {a} {a′} {b} h (o.Rows.last k) = o.Rows.last {a = a′} {b = b} (omega arith)
-rows-from {a} {a′} h (o.Rows.field {k = n} k i j s t) = o.Rows.field {a = a′} {k = n} (omega arith) i j s t
-
 -- a value of at most l levels spans its place and its end
 abbrev Values : (x : List ℕ) (l : ℕ) → Type 0
 Values x l = (p e : ℕ) (v : Json) → g.Value x l p e v → Spans v p e × (p < e)
@@ -83,43 +73,41 @@ module _ {x : List ℕ} where
   word-le g.Word.end = omega arith
   word-le (g.Word.letter p w) = omega (arith, word-le w)
 
-  -- elements and members, by what holds of the values of so many levels
-  elements-order : (l : ℕ) → Values x l → {n e : ℕ} {vs : Items} → g.Elements x l n e vs → (b : ℕ) × Row vs n b × (n ≤ b) × (b < e)
-  elements-order l ih (g.Elements.last {p = p} {e = e} {k = k} {v = v} w i w′ r) =
+  -- elements and members after a, by what holds of the values of so many levels
+  elements-order : (l : ℕ) → Values x l → {n e : ℕ} {vs : Items} (a : ℕ) → a < n → g.Elements x l n e vs → (b : ℕ) × Row vs a b × (n ≤ b) × (b < e)
+  elements-order l ih a h₀ (g.Elements.last {p = p} {e = e} {k = k} {v = v} w i w′ r) =
       let (s, h) = ih p e v i in
       let h₁ = ws-le w in
       let h₂ = ws-le w′ in
-      (k, o.Row.next h₁ s (o.Row.end h₂), omega arith, omega arith)
-  elements-order l ih (g.Elements.next {p = p} {e = e} {k = k} {v = v} w i w′ r es) =
+      (k, o.Row.next {a = a} {p = p} (omega arith) s (o.Row.end h₂), omega arith, omega arith)
+  elements-order l ih a h₀ (g.Elements.next {p = p} {e = e} {k = k} {v = v} w i w′ r es) =
       let (s, h) = ih p e v i in
       let h₁ = ws-le w in
       let h₂ = ws-le w′ in
-      let (b, t, h₃, h₄) = elements-order l ih es in
-      (b, o.Row.next h₁ s (row-from (omega arith) t), omega arith, h₄)
+      let (b, t, h₃, h₄) = elements-order l ih e (omega arith) es in
+      (b, o.Row.next {a = a} {p = p} (omega arith) s t, omega arith, h₄)
 
   -- members, by the same
-  members-order : (l : ℕ) → Values x l → {n e : ℕ} {ms : Members} → g.Members x l n e ms → (b : ℕ) × Rows ms n b × (n ≤ b) × (b < e)
-  members-order l ih (g.Members.last-member {q = q} {f = f} {p = p} {e = e} {k = k} {v = v} w r c w₁ r₁ w₂ i w₃ r₂) =
+  members-order : (l : ℕ) → Values x l → {n e : ℕ} {ms : Members} (a : ℕ) → a < n → g.Members x l n e ms → (b : ℕ) × Rows ms a b × (n ≤ b) × (b < e)
+  members-order l ih a h₀ (g.Members.last-member {q = q} {f = f} {p = p} {e = e} {k = k} {v = v} w r c w₁ r₁ w₂ i w₃ r₂) =
       let (s, h) = ih p e v i in
       let h₁ = ws-le w in
       let h₂ = ws-le w₃ in
       let h₃ = chars-lt c in
       let h₄ = ws-le w₁ in
       let h₅ = ws-le w₂ in
-      (k, o.Rows.field {p = p} {k = nameAt x q f} h₁ (omega (arith, slice-short (q + 1) (f - 1) x)) (omega arith) s (o.Rows.last h₂), omega arith, omega arith)
-  members-order l ih (g.Members.next-member {q = q} {f = f} {p = p} {e = e} {k = k} {v = v} w r c w₁ r₁ w₂ i w₃ r₂ es) =
+      let room = slice-short (q + 1) (f - 1) x in
+      (k, o.Rows.field {a = a} {p = p} {k = nameAt x q f} (omega arith) (omega arith) (omega arith) s (o.Rows.last h₂), omega arith, omega arith)
+  members-order l ih a h₀ (g.Members.next-member {q = q} {f = f} {p = p} {e = e} {k = k} {v = v} w r c w₁ r₁ w₂ i w₃ r₂ es) =
       let (s, h) = ih p e v i in
       let h₁ = ws-le w in
       let h₂ = ws-le w₃ in
       let h₃ = chars-lt c in
       let h₄ = ws-le w₁ in
       let h₅ = ws-le w₂ in
-      let (b, t, h₆, h₇) = members-order l ih es in (
-        b,
-        o.Rows.field {p = p} {k = nameAt x q f} h₁ (omega (arith, slice-short (q + 1) (f - 1) x)) (omega arith) s (rows-from (omega arith) t),
-        omega arith,
-        h₇,
-      )
+      let (b, t, h₆, h₇) = members-order l ih e (omega arith) es in
+      let room = slice-short (q + 1) (f - 1) x in
+      (b, o.Rows.field {a = a} {p = p} {k = nameAt x q f} (omega arith) (omega arith) (omega arith) s t, omega arith, h₇)
 
   -- a value, by what holds of those with one level less
   one-order : {l : ℕ} → Below (Values x) l → {p e : ℕ} {v : Json} → g.Value x l p e v → Spans v p e × (p < e)
@@ -131,10 +119,14 @@ module _ {x : List ℕ} where
   one-order ih {p} {e} (g.Value.true′ w) = let h : p < e = omega (arith, word-le w) in (o.Spans.bool h, h)
   one-order ih {p} {e} (g.Value.false′ w) = let h : p < e = omega (arith, word-le w) in (o.Spans.bool h, h)
   one-order ih {p} {e} (g.Value.null w) = let h : p < e = omega (arith, word-le w) in (o.Spans.null h, h)
-  one-order ih (g.Value.empty-array {n = n} q w r) = let h = ws-le w in (o.Spans.arr {e = n + 1} {b = n} (o.Row.end h) (omega arith), omega arith)
-  one-order ih (g.Value.array {l = l} q es) = let (b, t, h, h′) = elements-order l ih es in (o.Spans.arr t h′, omega arith)
-  one-order ih (g.Value.empty-object {n = n} q w r) = let h = ws-le w in (o.Spans.obj {e = n + 1} {b = n} (o.Rows.last h) (omega arith), omega arith)
-  one-order ih (g.Value.object {l = l} q es) = let (b, t, h, h′) = members-order l ih es in (o.Spans.obj t h′, omega arith)
+  one-order ih {p} (g.Value.empty-array {n = n} q w r) =
+      let h = ws-le w in
+      (o.Spans.arr {e = n + 1} {b = n} (o.Row.end {a = p} {b = n} (omega arith)) (omega arith), omega arith)
+  one-order ih {p} (g.Value.array {l = l} q es) = let (b, t, h, h′) = elements-order l ih p (omega arith) es in (o.Spans.arr t h′, omega arith)
+  one-order ih {p} (g.Value.empty-object {n = n} q w r) =
+      let h = ws-le w in
+      (o.Spans.obj {e = n + 1} {b = n} (o.Rows.last {a = p} {b = n} (omega arith)) (omega arith), omega arith)
+  one-order ih {p} (g.Value.object {l = l} q es) = let (b, t, h, h′) = members-order l ih p (omega arith) es in (o.Spans.obj t h′, omega arith)
 
 -- the tree of a text lies in order within it
 pub ordered : (l : ℕ) (x : List ℕ) (v : Json) → Text l x v → (p e : ℕ) × Spans v p e × (e ≤ length x)

@@ -7,6 +7,11 @@ pub one-of : {A : Type 0} (P : A → Type 0) {a : A} {l : List A} → List·Mem�
 one-of P (List·Memᴰ·head e) h = rw e (h .0)
 one-of P (List·Memᴰ·tail m) h = one-of P m (h .1)
 
+-- what holds always
+pub all-always : {A : Type 0} {P : A → Type 0} → ((a : A) → P a) → (l : List A) → All P l
+all-always f [] = tt
+all-always f (a ∷ l) = (f a, all-always f l)
+
 -- what follows from it, and what follows from two
 pub all-map : {A : Type 0} {P Q : A → Type 0} → ((a : A) → P a → Q a) → (l : List A) → All P l → All Q l
 all-map f [] g = tt

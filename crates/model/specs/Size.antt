@@ -1,4 +1,4 @@
--- A sheet is at most 73 times as long as its text, and 78 bytes.
+-- How many bytes a value takes in a text, and that the sheet of no accepted text has 2^32 bytes. How long a sheet is at the most stands in crate `bound`.
 use mathlib.Core.Path.{_≡_, refl, ap}
 use mathlib.Core.Bool.{Bool, true, false, cond}
 use mathlib.Core.List.{List, [], _∷_, _++_, map}
@@ -12,6 +12,7 @@ use lib.Dec.{eqb}
 use lib.IntN.{ℤ}
 use Rattle.utf8.specs.Bytes.{le}
 use Rattle.model.specs.Code.{All, signed, concatMap}
+use Rattle.model.specs.Lists.{all-always}
 use Rattle.numerals.specs.Numerals.{Decimal}
 use Rattle.words.specs.Words.{depth, valuesDepth}
 use Rattle.model.specs.Model.{Three, Model, Rec, rec}
@@ -24,34 +25,39 @@ use Rattle.strings.specs.Strings.{decode}
 use Rattle.json.specs.Tree.{Json, null, bool, num, str, arr, obj, Items, noItems, _▸_, Members, empty, member}
 use Rattle.nodes.specs.Access.{Member, listed, pairs, elements, members, nameOf, textOf, firstNamed, find}
 use Rattle.model.specs.Read.{get, orNull, integerOf, indexOf, valueOf, threeOf, nestOf, surfaceNamed, surfaceOf, semanticsOf, geometryOf, objectOf, modelOf}
-use Rattle.model.specs.Weigh.{length-le, length-signed, each-each, weight, weight-cons, weight-append}
+use Rattle.model.specs.Weigh.{length-le, length-signed, weight, weight-cons, weight-append}
 
--- how many bytes a value takes in a text, at the least
+-- how many bytes a value takes in a text, at the least: a bracket or a comma stands before each element and each member, and a name has two quotes and a colon
 unfoldable mutual
   pub size : Json → ℕ
   size (null p e) = 1
   size (bool p e b) = 1
   size (num p e raw) = 1
-  size (str p e raw) = suc (length (decode raw))
+  size (str p e raw) = 2 + length (decode raw)
   size (arr p e vs) = suc (sizes vs)
   size (obj p e ms) = suc (weights ms)
 
   pub sizes : Items → ℕ
   sizes noItems = 0
-  sizes (j ▸ v) = size j + sizes v
+  sizes (j ▸ v) = suc (size j) + sizes v
 
   pub weights : Members → ℕ
   weights empty = 0
-  weights (member n j m) = length (decode (n .raw)) + size j + weights m
+  weights (member n j m) = 4 + length (decode (n .raw)) + size j + weights m
 
-total : {A : Type 0} → (A → ℕ) → List A → ℕ
+unfoldable pub total : {A : Type 0} → (A → ℕ) → List A → ℕ
 total f [] = 0
 total f (a ∷ l) = f a + total f l
 
-memberSize : Member → ℕ
-memberSize m = length (nameOf m) + size (m .1)
+-- an element with what stands before it
+unfoldable pub room : Json → ℕ
+room j = suc (size j)
 
-size-pos : (j : Json) → 1 ≤ size j
+-- a member with what stands before it, its quotes and its colon
+unfoldable pub memberRoom : Member → ℕ
+memberRoom m = 4 + length (nameOf m) + size (m .1)
+
+pub size-pos : (j : Json) → 1 ≤ size j
 unfolding size
 size-pos (null p e) = omega arith
 size-pos (bool p e b) = omega arith
@@ -60,17 +66,17 @@ size-pos (str p e raw) = omega arith
 size-pos (arr p e v) = omega arith
 size-pos (obj p e m) = omega arith
 
-listed-size : (v : Items) → total size (listed v) ≤ sizes v
-unfolding size total listed
+listed-size : (v : Items) → total room (listed v) ≤ sizes v
+unfolding size total listed room
 listed-size noItems = omega arith
 listed-size (j ▸ v) = omega (arith, listed-size v)
 
-pairs-size : (m : Members) → total memberSize (pairs m) ≤ weights m
-unfolding size total pairs memberSize nameOf
+pairs-size : (m : Members) → total memberRoom (pairs m) ≤ weights m
+unfolding size total pairs memberRoom nameOf
 pairs-size empty = omega arith
 pairs-size (member n j m) = omega (arith, pairs-size m)
 
-elements-size : (j : Json) → total size (elements j) < size j
+pub elements-size : (j : Json) → total room (elements j) < size j
 unfolding size elements total
 elements-size (null p e) = omega arith
 elements-size (bool p e b) = omega arith
@@ -79,7 +85,7 @@ elements-size (str p e raw) = omega arith
 elements-size (arr p e v) = omega (arith, listed-size v)
 elements-size (obj p e m) = omega arith
 
-members-size : (j : Json) → total memberSize (members j) < size j
+pub members-size : (j : Json) → total memberRoom (members j) < size j
 unfolding size members total
 members-size (null p e) = omega arith
 members-size (bool p e b) = omega arith
@@ -88,7 +94,7 @@ members-size (str p e raw) = omega arith
 members-size (arr p e v) = omega arith
 members-size (obj p e m) = omega (arith, pairs-size m)
 
-text-size : (j : Json) → length (textOf j) ≤ size j
+pub text-size : (j : Json) → length (textOf j) ≤ size j
 unfolding size textOf
 text-size (null p e) = omega arith
 text-size (bool p e b) = omega arith
@@ -107,8 +113,8 @@ unfolding found
 found-cond true j o n h k = h
 found-cond false j o n h k = k
 
-first-size : (name : List ℕ) (l : List Member) → found (firstNamed name l) ≤ total memberSize l
-unfolding firstNamed total memberSize found
+first-size : (name : List ℕ) (l : List Member) → found (firstNamed name l) ≤ total memberRoom l
+unfolding firstNamed total memberRoom found
 first-size name [] = omega arith
 first-size name (m ∷ l) = found-cond (same name (nameOf m)) (m .1) (firstNamed name l) _ (omega arith) (omega (arith, first-size name l))
 
@@ -134,12 +140,13 @@ total-each f g low n (a ∷ l) h = (omega (arith, low a), total-each f g low n l
 
 -- its elements
 pub elements-within : (n : ℕ) (j : Json) → size j ≤ n → All (λ k. size k ≤ n) (elements j)
-elements-within n j h = total-each size size (λ k. omega arith) n (elements j) (omega (arith, elements-size j))
+unfolding room
+elements-within n j h = total-each room size (λ k. omega arith) n (elements j) (omega (arith, elements-size j))
 
 -- its members
 pub members-within : (n : ℕ) (j : Json) → size j ≤ n → All (λ m. size (m .1) ≤ n) (members j)
-unfolding memberSize
-members-within n j h = total-each memberSize (λ m. size (m .1)) (λ m. omega arith) n (members j) (omega (arith, members-size j))
+unfolding memberRoom
+members-within n j h = total-each memberRoom (λ m. size (m .1)) (λ m. omega arith) n (members j) (omega (arith, members-size j))
 
 -- a member that is found
 pub find-within : (n : ℕ) (name : String) (j k : Json) → size j ≤ n → find name j ≡ some k → size k ≤ n
@@ -148,8 +155,8 @@ find-within n name j k h e = omega (arith, find-size name j, ap found e)
 
 -- ---- lengths
 
-count-size : (l : List Json) → length l ≤ total size l
-unfolding total
+pub count-size : (l : List Json) → 2 * length l ≤ total room l
+unfolding total room
 count-size [] = omega arith
 count-size (j ∷ l) = omega (arith, size-pos j, count-size l)
 
@@ -168,18 +175,18 @@ unfolding concatMap
 each-map enc f [] = refl
 each-map enc f (a ∷ l) = ap (λ r. enc (f a) ++ r) (each-map enc f l)
 
-words-length : (l : List ℕ) → length (concatMap (le 4) l) ≤ 4 * length l
+pub words-length : (l : List ℕ) → length (concatMap (le 4) l) ≤ 4 * length l
 unfolding concatMap
 words-length [] = omega arith
 words-length (n ∷ l) = omega (arith, length-append (le 4 n) (concatMap (le 4) l), length-le 4 n, words-length l)
 
-nest-length : (d : ℕ) (j : Json) → length (layNest d (nestOf indexOf d j)) ≤ 4 * size j
-unfolding layNest nestOf
+pub nest-length : (d : ℕ) (j : Json) → length (layNest d (nestOf indexOf d j)) ≤ 2 * room j
+unfolding layNest nestOf room
 nest-length zero j = omega (arith, length-le 4 (indexOf j), size-pos j)
 nest-length (suc d) j =
     let l = map (nestOf indexOf d) (elements j) in
     let e = ap length (each-map (layNest d) (nestOf indexOf d) (elements j)) in
-    let b = each-bound (λ k. layNest d (nestOf indexOf d k)) size 4 (nest-length d) (elements j) in
+    let b = each-bound (λ k. layNest d (nestOf indexOf d k)) room 2 (nest-length d) (elements j) in
     omega (arith, length-append (le 4 (length l)) (concatMap (layNest d) l), length-le 4 (length l), elements-size j)
 
 value-length : (v : Option ℕ) → length (layValue v) ≡ 4
@@ -187,12 +194,12 @@ unfolding layValue
 value-length option.none = length-le 4 _
 value-length (some n) = length-le 4 n
 
-values-length : (d : ℕ) (j : Json) → length (layValues d (nestOf valueOf d j)) ≤ 4 * size j
-unfolding layValues nestOf
+pub values-length : (d : ℕ) (j : Json) → length (layValues d (nestOf valueOf d j)) ≤ 2 * room j
+unfolding layValues nestOf room
 values-length zero j = omega (arith, value-length (valueOf j), size-pos j)
 values-length (suc d) j =
     let e = ap length (each-map (layValues d) (nestOf valueOf d) (elements j)) in
-    let b = each-bound (λ k. layValues d (nestOf valueOf d k)) size 4 (values-length d) (elements j) in
+    let b = each-bound (λ k. layValues d (nestOf valueOf d k)) room 2 (values-length d) (elements j) in
     omega (arith, elements-size j)
 
 surface-cond : (b : Bool) (w : List ℕ) (c : ℕ) → length (laySurface (cond b (Model.added w) (Model.listed c))) ≤ 2 + length w
@@ -200,34 +207,26 @@ unfolding laySurface
 surface-cond true w c = omega (arith, length-append (le 2 19) w, length-le 2 19)
 surface-cond false w c = omega (arith, length-le 2 c)
 
-surface-weight : (j : Json) → weight (surfaceRecs (surfaceOf j)) ≤ 9 * size j
+-- a surface's record, by the text of its type
+pub surface-short : (j : Json) → weight (surfaceRecs (surfaceOf j)) ≤ 8 + length (textOf (get "type" j))
 unfolding surfaceRecs surfaceOf surfaceNamed weight concatMap
-surface-weight j =
+surface-short j =
     let t = textOf (get "type" j) in
-    let s = surfaceNamed t in
-    omega (
-      arith,
-      weight-cons 7 (laySurface s) [],
-      surface-cond (eqb (getD t 0 0) 43) t (codeOf surfaceWords t),
-      text-size (get "type" j),
-      get-size "type" j,
-      size-pos j,
-    )
+    omega (arith, weight-cons 7 (laySurface (surfaceNamed t)) [], surface-cond (eqb (getD t 0 0) 43) t (codeOf surfaceWords t))
+
+surface-weight : (j : Json) → weight (surfaceRecs (surfaceOf j)) ≤ 9 * room j
+unfolding room
+surface-weight j = omega (arith, surface-short j, text-size (get "type" j), get-size "type" j, size-pos j)
 
 -- the weight of what a list of parts gives
-weight-bound : {A B : Type 0} (recs : B → List Rec) (read : A → B) (f : A → ℕ) (c : ℕ) → ((a : A) → weight (recs (read a)) ≤ c * f a)
-    → (l : List A) → weight (concatMap recs (map read l)) ≤ c * total f l
-unfolding weight
-weight-bound recs read f c h l =
-    omega (
-      arith,
-      ap length (each-each recs layRec (map read l)),
-      ap length (each-map (λ b. concatMap layRec (recs b)) read l),
-      each-bound (λ a. concatMap layRec (recs (read a))) f c h l,
-    )
+pub weight-all : {A B : Type 0} (recs : B → List Rec) (read : A → B) (f : A → ℕ) (c : ℕ) (l : List A) → All (λ a. weight (recs (read a)) ≤ c * f a) l
+    → weight (concatMap recs (map read l)) ≤ c * total f l
+unfolding concatMap total
+weight-all recs read f c [] h = unfold weight in omega arith
+weight-all recs read f c (a ∷ l) h = omega (arith, weight-append (recs (read a)) (concatMap recs (map read l)), h .0, weight-all recs read f c l (h .1))
 
 semantics-weight : (c : ℕ) (o : Option Json) → weight (semanticsRecs c (Option·map (semanticsOf c) o)) ≤ 19 * found o
-unfolding semanticsRecs semanticsOf found weight concatMap
+unfolding semanticsRecs semanticsOf found weight concatMap room
 semantics-weight c option.none = omega arith
 semantics-weight c (some j) =
     let ss = elements (get "surfaces" j) in
@@ -236,7 +235,7 @@ semantics-weight c (some j) =
       arith,
       weight-append (concatMap surfaceRecs (map surfaceOf ss)) (rec 8 p ∷ []),
       weight-cons 8 p [],
-      weight-bound surfaceRecs surfaceOf size 9 surface-weight ss,
+      weight-all surfaceRecs surfaceOf room 9 ss (all-always surface-weight ss),
       elements-size (get "surfaces" j),
       get-size "surfaces" j,
       values-length (valuesDepth c) (get "values" j),
@@ -244,8 +243,8 @@ semantics-weight c (some j) =
       size-pos j,
     )
 
-geometry-weight : (j : Json) → weight (geometryRecs (geometryOf j)) ≤ 33 * size j
-unfolding geometryRecs geometryOf
+geometry-weight : (j : Json) → weight (geometryRecs (geometryOf j)) ≤ 33 * room j
+unfolding geometryRecs geometryOf room
 geometry-weight j =
     let g = geometryOf j in
     let c = g .code in
@@ -280,8 +279,8 @@ links-length ids n j =
       get-size n j,
     )
 
-object-weight : (ids : List (List ℕ)) (m : Member) → weight (objectRecs (numberObject ids (objectOf m))) ≤ 61 * memberSize m
-unfolding objectRecs numberObject objectOf memberSize
+object-weight : (ids : List (List ℕ)) (m : Member) → weight (objectRecs (numberObject ids (objectOf m))) ≤ 61 * memberRoom m
+unfolding objectRecs numberObject objectOf memberRoom
 object-weight ids m =
     let j = m .1 in
     let o = numberObject ids (objectOf m) in
@@ -298,7 +297,7 @@ object-weight ids m =
       length-le 2 (o .code),
       links-length ids "children" j,
       links-length ids "parents" j,
-      weight-bound geometryRecs geometryOf size 33 geometry-weight k,
+      weight-all geometryRecs geometryOf room 33 k (all-always geometry-weight k),
       elements-size (get "geometry" j),
       get-size "geometry" j,
       size-pos j,
@@ -326,9 +325,12 @@ end-weight : weight endRecs ≡ 6
 unfolding endRecs weight concatMap layRec le
 end-weight = refl
 
-pub sheet-short : (j : Json) → length (sheetOf (modelOf j)) ≤ 78 + 73 * size j
+-- a sheet by its parts
+pub sheet-parts : (j : Json) → let ms = members (get "CityObjects" j) in
+    length (sheetOf (modelOf j))
+    ≤ 78 + 12 * length (elements (get "vertices" j)) + weight (concatMap objectRecs (map (λ m. numberObject (idsOf (map objectOf ms)) (objectOf m)) ms))
 unfolding sheetOf layModel modelRecs numberModel modelOf weight concatMap
-sheet-short j =
+sheet-parts j =
     let t = modelOf j in
     let ids = idsOf (t .objects) in
     let ms = members (get "CityObjects" j) in
@@ -347,15 +349,24 @@ sheet-short j =
       decimals-length (t .translate),
       vertices-length (t .vertices),
       length-map vs (threeOf integerOf),
-      count-size vs,
-      elements-size (get "vertices" j),
-      get-size "vertices" j,
       ap (λ l. weight (concatMap objectRecs l)) (number-map ids ms),
-      weight-bound objectRecs (λ m. numberObject ids (objectOf m)) memberSize 61 (object-weight ids) ms,
+    )
+
+-- whatever the tree
+sheet-crude : (j : Json) → length (sheetOf (modelOf j)) ≤ 78 + 73 * size j
+sheet-crude j =
+    let ms = members (get "CityObjects" j) in
+    let ids = idsOf (map objectOf ms) in
+    omega (
+      arith,
+      sheet-parts j,
+      count-within (get "vertices" j),
+      get-size "vertices" j,
+      weight-all objectRecs (λ m. numberObject ids (objectOf m)) memberRoom 61 ms (all-always (object-weight ids) ms),
       members-size (get "CityObjects" j),
       get-size "CityObjects" j,
     )
 
--- so every accepted text's sheet is shorter than 2^32 bytes
+-- so the sheet of a text of at most 65,535 bytes is shorter than 2^32 bytes
 pub short-enough : (j : Json) → size j ≤ 65535 → length (sheetOf (modelOf j)) < 2 ^ 32
-short-enough j h = omega (arith, sheet-short j)
+short-enough j h = omega (arith, sheet-crude j)

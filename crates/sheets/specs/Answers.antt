@@ -168,14 +168,14 @@ verdict-low x = by (ltb 65535 (length x)) (ltb (wholeLength x) (length x))
     by false true = omega arith
     by false false = parsed-low (read x)
 
--- where 18 is answered, the text is accepted and its sheet is longer than the room
-pub too-long : (x : List ℕ) (r : ℕ) → answer x r ≡ refused 18 0 → ((n : ℕ) × (verdict x ≡ accepted n)) × (r < length (sheetOfText x))
+-- where 18 is answered, at any place, the text is accepted and its sheet is longer than the room
+pub too-long : (x : List ℕ) (r : ℕ) {p : ℕ} → answer x r ≡ refused 18 p → ((n : ℕ) × (verdict x ≡ accepted n)) × (r < length (sheetOfText x))
 unfolding answer fitted Low
-too-long x r e = by (verdict x) refl e
+too-long x r {p} e = by (verdict x) refl e
   where
-    by : (o : Verdict) → verdict x ≡ o → fitted x r o ≡ refused 18 0 → ((n : ℕ) × (verdict x ≡ accepted n)) × (r < length (sheetOfText x))
+    by : (o : Verdict) → verdict x ≡ o → fitted x r o ≡ refused 18 p → ((n : ℕ) × (verdict x ≡ accepted n)) × (r < length (sheetOfText x))
     by (judge.accepted k) q d = ((k, q), leb-false _ r (refused-if _ _ _ _ _ d))
-    by (judge.refused s p) q d = let z : s ≡ 18 = cc in absurd (omega (arith, subst Low q (verdict-low x)))
+    by (judge.refused s t) q d = let z : s ≡ 18 = cc in absurd (omega (arith, subst Low q (verdict-low x)))
 
 -- and the other way round
 pub does-not-fit : (x : List ℕ) (r n : ℕ) → verdict x ≡ accepted n → r < length (sheetOfText x) → answer x r ≡ refused 18 0
