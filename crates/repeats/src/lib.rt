@@ -380,8 +380,8 @@ fn repeated_large(text: &[u8], table: &[u32], n: usize, best: u32) -> u32
     r
 }
 
-// Rule 6 in the tree whose table has n words: in any object.
-pub fn repeated(text: &[u8], table: &[u32], n: usize, best: u32) -> u32
+// The same with links of a number that suits the tree.
+fn repeated_long(text: &[u8], table: &[u32], n: usize, best: u32) -> u32
     requires { ⌜ Root (now text) (now table) n ⌝ }
     ensures { λ r. ⌜ Gives (λ v. least best (map (fault 6) (rule6 v))) (now (text .entry)) (now (table .entry)) 0 r ⌝ }
 {
@@ -392,4 +392,26 @@ pub fn repeated(text: &[u8], table: &[u32], n: usize, best: u32) -> u32
         return repeated_middle(text, table, n, best);
     }
     repeated_large(text, table, n, best)
+}
+
+// The same of a short text. Its tree has no more than 6,195 words, but the long way is a function with a frame of its own because it is called from here too.
+fn repeated_short(text: &[u8], table: &[u32], n: usize, best: u32) -> u32
+    requires { ⌜ Root (now text) (now table) n ⌝ }
+    ensures { λ r. ⌜ Gives (λ v. least best (map (fault 6) (rule6 v))) (now (text .entry)) (now (table .entry)) 0 r ⌝ }
+{
+    if n <= 6195 {
+        return repeated_small(text, table, n, best);
+    }
+    repeated_long(text, table, n, best)
+}
+
+// Rule 6 in the tree whose table has n words: in any object. The table of a short text has room for at most 6,195.
+pub fn repeated(text: &[u8], table: &[u32], n: usize, best: u32) -> u32
+    requires { ⌜ Root (now text) (now table) n ⌝ }
+    ensures { λ r. ⌜ Gives (λ v. least best (map (fault 6) (rule6 v))) (now (text .entry)) (now (table .entry)) 0 r ⌝ }
+{
+    if table.len() <= 6195 {
+        return repeated_short(text, table, n, best);
+    }
+    repeated_long(text, table, n, best)
 }
