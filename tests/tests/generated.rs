@@ -13,7 +13,7 @@ use kebrawish_tests::generate::{self, Case, Coverage, Expected, Random};
 use kebrawish_tests::{lay, read, sheet, Verdict};
 
 /// The stack of a thread that calls the library: little more than the C header states.
-const STACK: usize = 1_440 << 10;
+const STACK: usize = 1_460 << 10;
 
 /// How many texts the gate tries at least, and how often each rule is then the answer.
 const ENOUGH: u64 = 20_000;
