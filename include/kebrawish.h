@@ -3,7 +3,8 @@
  *
  * Build the library with `rt staticlib kebrawish` and link target/staticlib/libkebrawish.a
  * (x86-64). Of other libraries it needs C's memcpy and memset alone. It allocates nothing,
- * keeps nothing between calls, and a call needs less than 2 MiB of stack.
+ * keeps nothing between calls, and a call takes at most 1,440 KiB of stack, or at most
+ * 165 KiB for a text of at most 4,096 bytes, as measured (tests/tests/stack.rs).
  *
  * The answer of both functions is one word:
  *

@@ -12,6 +12,9 @@ use kebrawish_tests::compare::{self, shown, LARGE_ROOM};
 use kebrawish_tests::generate::{self, Case, Coverage, Expected, Random};
 use kebrawish_tests::{lay, read, sheet, Verdict};
 
+/// The stack of a thread that calls the library: little more than the C header states.
+const STACK: usize = 1_460 << 10;
+
 /// How many texts the gate tries at least, and how often each rule is then the answer.
 const ENOUGH: u64 = 20_000;
 const LEAST: u64 = 50;
@@ -222,7 +225,7 @@ fn short_texts() {
     println!("{} texts over {} bytes", texts.len(), alphabet.len());
 }
 
-/// The deepest and largest texts, each in a thread with a stack of 2 MiB.
+/// The deepest and largest texts, each in a thread with a small stack.
 #[test]
 fn large_texts_on_a_small_stack() {
     let texts = generate::large_texts();
@@ -235,7 +238,7 @@ fn large_texts_on_a_small_stack() {
             assert_eq!(answers.judge.rule(), large.rule, "{}", large.label);
             compare::lay(&large.text, 65_536, 0xA5, large.label);
         };
-        let thread = thread::Builder::new().stack_size(2 << 20).spawn(call);
+        let thread = thread::Builder::new().stack_size(STACK).spawn(call);
         let end = thread.expect("a thread").join();
         end.unwrap_or_else(|_| panic!("the thread of: {label}"));
         println!("{label}: {:.2} seconds", start.elapsed().as_secs_f64());

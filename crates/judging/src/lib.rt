@@ -99,16 +99,6 @@ fn judge_in(text: &[u8], table: &mut [u32]) -> Verdict
     }
 }
 
-// Rules 3 to 17 of a text of at most 4,096 bytes. A small work table is cleared sooner.
-fn judge_short(text: &[u8]) -> Verdict
-    requires { ⌜ length (now text) ≤ 4096 ⌝ }
-    ensures { λ r. ⌜ verdictOf r ≡ parsed (read (now (text .entry))) ⌝ }
-{
-    let mut space: [u32; 6194] = [0; 6194];
-    let table: &mut [u32] = &mut space;
-    judge_in(text, table)
-}
-
 // Rules 3 to 17 of a text that is not too long.
 fn judge_long(text: &[u8]) -> Verdict
     requires { ⌜ length (now text) ≤ 65535 ⌝ }
@@ -117,6 +107,40 @@ fn judge_long(text: &[u8]) -> Verdict
     let mut space: [u32; 98352] = [0; 98352];
     let table: &mut [u32] = &mut space;
     judge_in(text, table)
+}
+
+// Rules 5 to 17 over the node table of a short text. A tree for which the small rows would not do goes the long way:
+// there is none, but the long way is a function with a frame of its own because it is called from here too.
+fn judge_short_tree(text: &[u8], table: &[u32], n: usize) -> Verdict
+    requires { ⌜ Stands (now text) (now table) n ⌝ }
+    ensures { λ r. ⌜ verdictOf r ≡ parsed (read (now (text .entry))) ⌝ }
+{
+    if n <= 6195 {
+        return judge_small(text, table, n);
+    }
+    judge_long(text)
+}
+
+// Rules 3 to 17 of a short text, with a work table that has room for its tree.
+fn judge_short_in(text: &[u8], table: &mut [u32]) -> Verdict
+    requires { ⌜ Room (now text) (now table) ⌝ }
+    ensures { λ r. ⌜ verdictOf r ≡ parsed (read (now (text .entry))) ⌝ }
+{
+    let opened = examining::open(text, table);
+    match opened {
+        Opened::Tree(n) => judge_short_tree(text, table, n),
+        Opened::Refused(refusal) => Verdict::Refused(refusal),
+    }
+}
+
+// Rules 3 to 17 of a text of at most 4,096 bytes. A small work table is cleared sooner.
+fn judge_short(text: &[u8]) -> Verdict
+    requires { ⌜ length (now text) ≤ 4096 ⌝ }
+    ensures { λ r. ⌜ verdictOf r ≡ parsed (read (now (text .entry))) ⌝ }
+{
+    let mut space: [u32; 6194] = [0; 6194];
+    let table: &mut [u32] = &mut space;
+    judge_short_in(text, table)
 }
 
 // Rules 3 to 17 of a text that is not too long, with a work table of a size that suits it.

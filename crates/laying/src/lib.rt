@@ -145,16 +145,6 @@ fn lay_in(text: &[u8], table: &mut [u32], sheet: &mut [u8]) -> Answer
     }
 }
 
-// Lays out a text of at most 4,096 bytes in a sheet of zeroes.
-fn lay_short(text: &[u8], sheet: &mut [u8]) -> Answer
-    requires { ⌜ (length (now text) ≤ 4096) × (Zeroes (now sheet)) ⌝ }
-    ensures { λ r. ⌜ Lays (now (text .entry)) (parsed (read (now (text .entry)))) (now (sheet .entry)) (now (sheet .exit)) (answered r) ⌝ }
-{
-    let mut space: [u32; 6194] = [0; 6194];
-    let table: &mut [u32] = &mut space;
-    lay_in(text, table, sheet)
-}
-
 // Lays out a text that is not too long, in a sheet of zeroes.
 fn lay_long(text: &[u8], sheet: &mut [u8]) -> Answer
     requires { ⌜ (length (now text) ≤ 65535) × (Zeroes (now sheet)) ⌝ }
@@ -163,6 +153,40 @@ fn lay_long(text: &[u8], sheet: &mut [u8]) -> Answer
     let mut space: [u32; 98352] = [0; 98352];
     let table: &mut [u32] = &mut space;
     lay_in(text, table, sheet)
+}
+
+// Lays out a short text whose tree's words are the first n of the table. A tree for which the small rows would not do goes the long way:
+// there is none, but the long way is a function with a frame of its own because it is called from here too.
+fn lay_short_tree(text: &[u8], table: &[u32], n: usize, sheet: &mut [u8]) -> Answer
+    requires { ⌜ (Stands (now text) (now table) n) × (Zeroes (now sheet)) ⌝ }
+    ensures { λ r. ⌜ Lays (now (text .entry)) (parsed (read (now (text .entry)))) (now (sheet .entry)) (now (sheet .exit)) (answered r) ⌝ }
+{
+    if n <= 6195 {
+        return lay_small(text, table, n, sheet);
+    }
+    lay_long(text, sheet)
+}
+
+// Lays out a short text in a sheet of zeroes, with a work table that has room for its tree.
+fn lay_short_in(text: &[u8], table: &mut [u32], sheet: &mut [u8]) -> Answer
+    requires { ⌜ (Room (now text) (now table)) × (Zeroes (now sheet)) ⌝ }
+    ensures { λ r. ⌜ Lays (now (text .entry)) (parsed (read (now (text .entry)))) (now (sheet .entry)) (now (sheet .exit)) (answered r) ⌝ }
+{
+    let opened = examining::open(text, table);
+    match opened {
+        Opened::Tree(n) => lay_short_tree(text, table, n, sheet),
+        Opened::Refused(refusal) => Answer::Refused(refusal),
+    }
+}
+
+// Lays out a text of at most 4,096 bytes in a sheet of zeroes.
+fn lay_short(text: &[u8], sheet: &mut [u8]) -> Answer
+    requires { ⌜ (length (now text) ≤ 4096) × (Zeroes (now sheet)) ⌝ }
+    ensures { λ r. ⌜ Lays (now (text .entry)) (parsed (read (now (text .entry)))) (now (sheet .entry)) (now (sheet .exit)) (answered r) ⌝ }
+{
+    let mut space: [u32; 6194] = [0; 6194];
+    let table: &mut [u32] = &mut space;
+    lay_short_in(text, table, sheet)
 }
 
 // Lays out a text that is not too long, in a sheet of zeroes, with a work table of a size that suits it.

@@ -473,7 +473,36 @@ fn links_few(
     )
 }
 
-// Rules 15 to 17 of at most 1,024 objects.
+// The same of at most 200 objects; a text of 4,096 bytes has no more.
+fn links_some(
+    text: &[u8],
+    table: &[u32],
+    offsets: &[usize],
+    children: &[u16],
+    parents: &[u16],
+    best: u32,
+) -> u32
+    requires { ⌜ (Town (now text) (now table) (now offsets) (now children) (now parents)) × (length (now offsets) ≤ 200) ⌝ }
+    ensures { λ r. ⌜ LinkFaults (now (text .entry)) (now (table .entry)) (now (offsets .entry)) best r ⌝ }
+{
+    let size = offsets.len() * 128;
+    let mut first: [u8; 25600] = [0; 25600];
+    let mut second: [u8; 25600] = [0; 25600];
+    let downs: &mut [u8] = &mut first;
+    let ups: &mut [u8] = &mut second;
+    links_with(
+        text,
+        table,
+        offsets,
+        children,
+        parents,
+        &mut downs[0..size],
+        &mut ups[0..size],
+        best,
+    )
+}
+
+// The same of at most 1,024 objects.
 fn links_many(
     text: &[u8],
     table: &[u32],
@@ -502,7 +531,46 @@ fn links_many(
     )
 }
 
-// Rules 15 to 17 of all objects.
+// Rules 15 to 17 of all objects, with sets of a size that suits their number.
+fn links_long(
+    text: &[u8],
+    table: &[u32],
+    offsets: &[usize],
+    children: &[u16],
+    parents: &[u16],
+    best: u32,
+) -> u32
+    requires { ⌜ Town (now text) (now table) (now offsets) (now children) (now parents) ⌝ }
+    ensures { λ r. ⌜ LinkFaults (now (text .entry)) (now (table .entry)) (now (offsets .entry)) best r ⌝ }
+{
+    if offsets.len() <= 64 {
+        return links_few(text, table, offsets, children, parents, best);
+    }
+    links_many(text, table, offsets, children, parents, best)
+}
+
+// The same of a short text. It has no more than 200 objects, but the long way is a function with a frame of its own because it is called from here too.
+fn links_short(
+    text: &[u8],
+    table: &[u32],
+    offsets: &[usize],
+    children: &[u16],
+    parents: &[u16],
+    best: u32,
+) -> u32
+    requires { ⌜ Town (now text) (now table) (now offsets) (now children) (now parents) ⌝ }
+    ensures { λ r. ⌜ LinkFaults (now (text .entry)) (now (table .entry)) (now (offsets .entry)) best r ⌝ }
+{
+    if offsets.len() <= 64 {
+        return links_few(text, table, offsets, children, parents, best);
+    }
+    if offsets.len() <= 200 {
+        return links_some(text, table, offsets, children, parents, best);
+    }
+    links_long(text, table, offsets, children, parents, best)
+}
+
+// Rules 15 to 17 of all objects. The rows of a short text have at most 2,065 words.
 pub fn links(
     text: &[u8],
     table: &[u32],
@@ -514,8 +582,8 @@ pub fn links(
     requires { ⌜ Ready (now text) (now table) (now offsets) (now children) (now parents) ⌝ }
     ensures { λ r. ⌜ LinksGive (now (text .entry)) (now (table .entry)) best r ⌝ }
 {
-    if offsets.len() <= 64 {
-        return links_few(text, table, offsets, children, parents, best);
+    if children.len() <= 2065 {
+        return links_short(text, table, offsets, children, parents, best);
     }
-    links_many(text, table, offsets, children, parents, best)
+    links_long(text, table, offsets, children, parents, best)
 }

@@ -95,7 +95,7 @@ module _ {x t q q₁ : List ℕ} {c c₁ e : ℕ} (k : ℕ) {us : List (List ℕ
     more = record { has = λ w h. has-if w (same (textAt x t k) w) refl h; are = λ f l a. are-if f (eqb f e) refl l a }
 
 -- the name at the node k, and what the code finds of it
-pub entry-lost : {x t q q₁ : List ℕ} {c k : ℕ} (b : ℕ) → length q₁ ≡ 327680 → EntryGives x t q c q₁ 0 k b b
+pub entry-lost : {x t q q₁ : List ℕ} {c k : ℕ} (b : ℕ) → length q₁ ≡ length q → EntryGives x t q c q₁ 0 k b b
 entry-lost b n = record { room = n; told = λ z. absurd (z refl) }
 
 -- the entry of the name at the node k
@@ -120,11 +120,11 @@ module _ {x t : List ℕ} {v k : ℕ} where
         record { none = λ z. absurd (n z); some = λ m z. (refl, sym g ∙ not-false r l, o ∙ (ap (min b) h ∙ ap (λ (a : ℕ). min b (fault 6 a)) q)) }
 
 module _ {x t q q₁ : List ℕ} {c c₁ k e : ℕ} (d : EntryAt x t q c k) (w : Walks q c 0 (textAt x t k) q₁ c₁ e) where
-  pub entry-room : length q₁ ≡ 327680
+  pub entry-room : length q₁ ≡ length q
   entry-room = w .room
 
   module _ (z : c₁ ≡ 0 → ⊥) where
-    pub entry-low : e < 65536
+    pub entry-low : e * 5 + 5 ≤ length q₁
     entry-low = omega (arith, w .told z .inside, w .told z .few)
 
     pub entry-value : {v : ℕ} → v ≡ valueOf q₁ e → ValueTells x t v
@@ -140,7 +140,7 @@ module _ {x t q q₁ : List ℕ} {c c₁ k e : ℕ} (d : EntryAt x t q c k) (w :
           let n = eqb-true f 0 y in
           let i = g .none n in
           record {
-            few = rw (i .0) (w .told z .few);
+            few = rw (i .0, p .room) (w .told z .few);
             is = λ us s. rw (not-among k s (w .told z) (sym h ∙ n)) (i .1);
             more = λ us s. rw (i .0) (more k s (w .told z) p (d .name) m later);
           }
@@ -148,13 +148,13 @@ module _ {x t q q₁ : List ℕ} {c c₁ k e : ℕ} (d : EntryAt x t q c k) (w :
           let n = eqb-false f 0 y in
           let i = g .some n o in
           record {
-            few = rw (i .0) (w .told z .few);
+            few = rw (i .0, p .room) (w .told z .few);
             is = λ us s. rw (is-among k s (w .told z) (λ u. n (h ∙ u)) (rw (← h) (i .1))) (i .2);
             more = λ us s. rw (i .0) (more k s (w .told z) p (d .name) m later);
           }
 
       pub entry-told : EntryGives x t q c q₂ c₂ k b r
-      entry-told = record { room = p .room; told = λ o. told-if (eqb f 0) refl o }
+      entry-told = record { room = p .room ∙ w .room; told = λ o. told-if (eqb f 0) refl o }
 
 -- names
 module _ {x t : List ℕ} {i : ℕ} (d : NameText x t i) where

@@ -3,7 +3,7 @@ use Prim.Native.Nat.{ℕ, _+_, _*_, _^_, _≤_, _<_}
 use mathlib.Core.Path.{_≡_, refl, ap, _∙_}
 use mathlib.Core.List.{List, [], _++_, map, flatMap}
 use native.Mathlib.Omega.{arith}
-use lib.ListN.{length}
+use lib.ListN.{length, replicate}
 use mir.Syntax.{w64}
 use mir.Val.{Fits}
 use borrow.Author.Needs.{needs}
@@ -11,12 +11,13 @@ use Rattle.json.specs.Tree.{Json, Items, _▸_, Members, member}
 use Rattle.json.specs.Tree as tree
 use Rattle.nodes.specs.Faults.{fault, least}
 use Rattle.nodes.specs.Says.{Root, Gives}
-use Rattle.nodes.specs.Laws.{least-le, fieldsOf}
+use Rattle.nodes.specs.Laws.{least-le, fieldsOf, fresh-length}
 use Rattle.everywhere.specs.Everywhere.{repeated, rule6, rule6In, rule6Of}
 use Rattle.everywhere.specs.Parts.{Part, AnyPart}
 use Rattle.everywhere.proofs.Passes.{parts, partsIn, partsOf, flat-++, Pass, pass-begin, pass-part, pass-done, again}
 use Rattle.everywhere.proofs.Any.{any-onward}
 use Rattle.repeats.specs.Names.{own6, Sure, PartTells, TreeTells}
+use Rattle.repeats.specs.Entries.{TrieRoom}
 
 -- rule 6 part by part
 mutual
@@ -63,6 +64,20 @@ pub pass-lent : {ls₀ ls : List ℕ} {rule : ℕ} {own : Part → List ℕ} {x 
     → PartTells (length ls) rule own x t k b r → Pass (Sure (length ls₀)) rule own x t n b₀ (k + 3) r
 pass-lent c l e g = pass-onward c l (rw (← e .same) g)
 
+-- an array for a trie that was lent as q₀ and is now q
+pub record TrieLent (q₀ q : List ℕ) : Type 0 where
+  pub same : length q ≡ length q₀
+  pub room : TrieRoom q
+
+pub trie-room : (m : ℕ) {q : List ℕ} → q ≡ replicate m 0 → 5 ≤ m → m ≤ 327680 → TrieRoom q
+trie-room m e l h = let z = fresh-length m e in record { root = rw z l; few = rw z h }
+
+pub trie-begin : {q : List ℕ} → TrieRoom q → TrieLent q q
+trie-begin h = record { same = refl; room = h }
+
+pub trie-on : {q₀ q q′ : List ℕ} → TrieLent q₀ q → length q′ ≡ length q → TrieLent q₀ q′
+trie-on l e = record { same = e ∙ l .same; room = record { root = rw e (l .room .root); few = rw e (l .room .few) } }
+
 -- the pass of rule 6
 module _ {x t : List ℕ} {n : ℕ} where
   pub pass-start : (others b : ℕ) → Root x t n → Pass (Sure others) 6 own6 x t n b 0 b
@@ -86,5 +101,7 @@ pub tree-last : {others : ℕ} {x t : List ℕ} {b r : ℕ} → TreeTells others
 tree-last g z = g .told (λ e. z)
 
 pub ruleset passing = (needs, pass-start, pass-here, pass-fits, pass-lent, pass-told, lent-begin, lent-on)
+
+pub ruleset entering = (needs, pass-start, pass-here, pass-fits, pass-onward, pass-told, trie-begin, trie-on)
 
 pub ruleset ways = (needs, tree-sure, tree-last)

@@ -1,5 +1,5 @@
 -- Rule 6 at one name and at one object.
-use Prim.Native.Nat.{ℕ, _+_, _-_, _*_, _≤_, _<_, min}
+use Prim.Native.Nat.{ℕ, _+_, _-_, _*_, _^_, _≤_, _<_, min}
 use mathlib.Core.Path.{_≡_, refl, sym, ap, _∙_}
 use mathlib.Core.Bool.{Bool, true, false, cond, not, _||_, or-false, or-true}
 use mathlib.Core.List.{List, [], _∷_, map, map-append}
@@ -8,6 +8,8 @@ use native.Mathlib.Omega.{arith}
 use lib.ListN.{length, getD, replicate}
 use borrow.Author.Needs.{needs}
 use borrow.Author.Tests.{eq-eqb, ne-eqb, not-true, not-false}
+use mir.Syntax.{w64}
+use mir.Val.{Fits}
 use Rattle.utf8.specs.Utf8.{same}
 use Rattle.strings.specs.Strings.{decode}
 use Rattle.strings.specs.Spans.{decodeAt, beginApart}
@@ -23,7 +25,7 @@ use Rattle.nodes.specs.Laws.{quoted-at, kinds, fieldsOf, object-begin, no-field
 use Rattle.everywhere.specs.Parts.{Part, value, Stands, of-value, of-name, AnyPart, PartGives, textAt}
 use Rattle.repeats.specs.Names.{own6, Sure, PartTells, earlier, NameNode, Repeats, RepeatGives}
 use Rattle.repeats.specs.Chains.{Chains, ChainAt, ChainGives, LongObject}
-use Rattle.repeats.specs.Entries.{Entries, EntryAt, EntryGives}
+use Rattle.repeats.specs.Entries.{TrieRoom, Entries, EntryAt, EntryGives, TrieObject, FreshObject}
 use Rattle.trie.specs.Trie.{Emptied}
 use Rattle.repeats.proofs.Links.{chains-begin}
 use Rattle.repeats.proofs.Entries.{entries-begin}
@@ -305,20 +307,47 @@ module _ {x t : List ℕ} {i : ℕ} where
           heads = g .heads;
         }
 
--- the same loop by a trie, which has c entries
-pub record Enters (x t q : List ℕ) (c i first n b₀ k b : ℕ) : Type 0 where
+-- the same loop by a trie, which was q₀ and has c entries
+pub record Enters (x t q₀ q : List ℕ) (c i first n b₀ k b : ℕ) : Type 0 where
   pub sweeps : Sweeps (Sure 1) x t i first n b₀ k b (Entries x t q c)
-  pub room : length q ≡ 327680
+  pub same : length q ≡ length q₀
+  room : length q ≤ 327680
   later : 3 ≤ k
   some : 0 < c
-  few : c ≤ 65536
+  few : c * 5 ≤ length q
 
 module _ {x t : List ℕ} {i : ℕ} where
-  pub enter-begin : {p n : ℕ} {q : List ℕ} (b : ℕ) → AnyPart x t i → p ≡ getD t i 0 → getD x p 0 ≡ 123 → n ≡ getD t (i + 2) 0 → Emptied q → Enters x t q 1 i (i + 3) n b (i + 3) b
-  enter-begin {q = q} b a y h o z =
-      record { sweeps = begin (Sure 1) b a y h o (entries-begin x t q (z .value)); room = z .room; later = omega arith; some = omega arith; few = omega arith }
+  pub trie-object : {p : ℕ} {q : List ℕ} → AnyPart x t i → TrieRoom q → p ≡ getD t i 0 → getD x p 0 ≡ 123 → TrieObject x t q i
+  trie-object a l y h = record { part = a; object = rw (← y) h; room = l }
 
-  module _ {first n b₀ k b c : ℕ} {q : List ℕ} (s : Enters x t q c i first n b₀ k b) where
+  pub object-root : {q : List ℕ} → TrieObject x t q i → 5 ≤ length q
+  object-root f = f .room .root
+
+  pub object-fresh : {q₀ q : List ℕ} → TrieObject x t q₀ i → Emptied q₀ q → FreshObject x t q i
+  object-fresh f z =
+      let r = f .room in
+      record { object = record { part = f .part; object = f .object; room = record { root = rw (z .room) (r .root); few = rw (z .room) (r .few) } }; value = z .value }
+
+  module _ {q : List ℕ} (f : FreshObject x t q i) where
+    pub enter-third : i + 2 < length t
+    enter-third = any-third (f .object .part)
+
+    pub enter-onward : length t * 4 < 2 ^ 63 → Fits w64 (i + 3)
+    enter-onward h = any-onward (f .object .part) h
+
+    pub enter-begin : {n : ℕ} (b : ℕ) → n ≡ getD t (i + 2) 0 → Enters x t q q 1 i (i + 3) n b (i + 3) b
+    enter-begin b o =
+        let d = f .object in
+        record {
+          sweeps = begin (Sure 1) b (d .part) refl (d .object) o (entries-begin x t q (f .value));
+          same = refl;
+          room = d .room .few;
+          later = omega arith;
+          some = omega arith;
+          few = d .room .root;
+        }
+
+  module _ {first n b₀ k b c : ℕ} {q₀ q : List ℕ} (s : Enters x t q₀ q c i first n b₀ k b) where
     pub enter-name : k < n → EntryAt x t q c k
     enter-name l =
         let u = turn (s .sweeps) l in
@@ -333,12 +362,13 @@ module _ {x t : List ℕ} {i : ℕ} where
           few = s .few;
         }
 
-    pub enter-again : {r m c′ : ℕ} {q′ : List ℕ} → k < n → EntryGives x t q c q′ c′ k b r → (c′ ≡ 0 → ⊥) → m ≡ getD t (k + 3 + 2) 0 → Enters x t q′ c′ i first n b₀ m r
+    pub enter-again : {r m c′ : ℕ} {q′ : List ℕ} → k < n → EntryGives x t q c q′ c′ k b r → (c′ ≡ 0 → ⊥) → m ≡ getD t (k + 3 + 2) 0 → Enters x t q₀ q′ c′ i first n b₀ m r
     enter-again {m = m} l g z y =
         let o = g .told z in
         record {
           sweeps = again (s .sweeps) l y (λ ms f e w. (onward x t k (earlier [] ms) (λ v. o .is _ w), o .more _ w));
-          room = g .room;
+          same = g .room ∙ s .same;
+          room = rw (g .room) (s .room);
           later = omega (arith, turn (s .sweeps) l .word .next);
           some = omega arith;
           few = o .few;
@@ -347,8 +377,14 @@ module _ {x t : List ℕ} {i : ℕ} where
     pub enter-done : n ≤ k → PartTells 1 6 own6 x t i b₀ b
     enter-done h = sweep-told (s .sweeps) h
 
-    pub enter-room : length q ≡ 327680
-    enter-room = s .room
+    pub enter-next : k < n → k + 3 + 2 < length t
+    enter-next l = walk-room (s .sweeps .walk) l
+
+    pub enter-fits : k < n → length t * 4 < 2 ^ 63 → Fits w64 (k + 3)
+    enter-fits l h = walk-onward (s .sweeps .walk) l h
+
+    pub enter-same : length q ≡ length q₀
+    enter-same = s .same
 
 -- 0 leaves it to another way
 pub left-open : {x t : List ℕ} (i b : ℕ) → PartTells 1 6 own6 x t i b 0
@@ -401,4 +437,6 @@ pub ruleset sweeps = (
 
 pub ruleset threads = (needs, left-open, any-third, any-onward, thread-begin, thread-name, thread-less, thread-again, thread-told)
 
-pub ruleset enters = (needs, any-first, any-third, any-onward, any-inside, repeated-told, enter-begin, enter-name, enter-again, enter-done, left-open, enter-room, walk-less)
+pub ruleset opens = (needs, any-first, any-inside, repeated-told, trie-object, object-root, object-fresh)
+
+pub ruleset enters = (needs, enter-third, enter-onward, enter-begin, enter-name, enter-again, enter-done, left-open, enter-next, enter-fits, enter-same, walk-less)

@@ -9,7 +9,12 @@ use Rattle.trie.specs.Trie.{valueOf, Reaches}
 use Rattle.nodes.specs.Faults.{fault, least}
 use Rattle.nodes.specs.Laws.{StringAt}
 use Rattle.everywhere.specs.Everywhere.{among}
-use Rattle.everywhere.specs.Parts.{textAt}
+use Rattle.everywhere.specs.Parts.{AnyPart, textAt}
+
+-- an array for a trie: it has room for the root, and for at most 65,536 entries
+pub record TrieRoom (q : List ℕ) : Type 0 where
+  pub root : 5 ≤ length q
+  pub few : length q ≤ 327680
 
 -- a name at the node k
 pub record NameText (x t : List ℕ) (k : ℕ) : Type 0 where
@@ -49,17 +54,28 @@ pub record EntryAt (x t q : List ℕ) (c k : ℕ) : Type 0 where
   pub name : NameText x t k
   pub short : length x ≤ 65535
   pub later : 3 ≤ k
-  pub room : length q ≡ 327680
+  pub room : length q ≤ 327680
   pub some : 0 < c
-  pub few : c ≤ 65536
+  pub few : c * 5 ≤ length q
 
 -- r is the least of b and of the fault of the name at the node k, if it is among those of the trie; afterwards it is one of them
 pub record EntryTold (x t q : List ℕ) (c : ℕ) (q′ : List ℕ) (c′ k b r : ℕ) : Type 0 where
-  pub few : c′ ≤ 65536
+  pub few : c′ * 5 ≤ length q′
   pub is : (us : List (List ℕ)) → Entries x t q c us → r ≡ least b (map (fault 6) (cond (among us (textAt x t k)) (getD t k 0 ∷ []) []))
   pub more : (us : List (List ℕ)) → Entries x t q c us → Entries x t q′ c′ (textAt x t k ∷ us)
 
 -- the same, unless the way was given up (c′ is 0)
 pub record EntryGives (x t q : List ℕ) (c : ℕ) (q′ : List ℕ) (c′ k b r : ℕ) : Type 0 where
-  pub room : length q′ ≡ 327680
+  pub room : length q′ ≡ length q
   pub told : (c′ ≡ 0 → ⊥) → EntryTold x t q c q′ c′ k b r
+
+-- an object stands at the node i, and the array q is one for a trie
+pub record TrieObject (x t q : List ℕ) (i : ℕ) : Type 0 where
+  pub part : AnyPart x t i
+  pub object : getD x (getD t i 0) 0 ≡ 123
+  pub room : TrieRoom q
+
+-- the same, and the trie has no names yet
+pub record FreshObject (x t q : List ℕ) (i : ℕ) : Type 0 where
+  pub object : TrieObject x t q i
+  pub value : valueOf q 0 ≡ 0

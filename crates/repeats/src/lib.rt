@@ -12,7 +12,7 @@ ghost use Rattle.everywhere.specs.Everywhere.{rule6};
 ghost use Rattle.everywhere.specs.Parts.{AnyPart, textAt};
 ghost use Rattle.repeats.specs.Names.{PartTells, TreeTells, own6, NameNode, Repeats, RepeatGives};
 ghost use Rattle.repeats.specs.Chains.{ChainNode, Searched, ChainAt, ChainGives, LongObject};
-ghost use Rattle.repeats.specs.Entries.{NameText, ValueTells, EntryFault, EntryAt, EntryGives};
+ghost use Rattle.repeats.specs.Entries.{TrieRoom, NameText, ValueTells, EntryFault, EntryAt, EntryGives, TrieObject, FreshObject};
 
 // Whether a name is in a chain. A long chain is not searched to its end.
 enum Search {
@@ -191,14 +191,8 @@ fn same_names(text: &[u8], table: &[u32], i: usize, j: usize) -> bool
 }
 
 // The entry of the name at node k in a trie.
-fn entry_of(
-    text: &[u8],
-    table: &[u32],
-    trie: &mut [u16; 327680],
-    count: usize,
-    k: usize,
-) -> trie::Place
-    requires { ⌜ (NameText (now text) (now table) k) × (0 < count) × (count ≤ 65536) × (length (now trie) ≡ 327680) ⌝ }
+fn entry_of(text: &[u8], table: &[u32], trie: &mut [u16], count: usize, k: usize) -> trie::Place
+    requires { ⌜ (NameText (now text) (now table) k) × (0 < count) × (count * 5 ≤ length (now trie)) × (length (now trie) ≤ 327680) ⌝ }
     ensures { λ r. ⌜ Walks (now (trie .entry)) count 0 (textAt (now (text .entry)) (now (table .entry)) k) (now (trie .exit)) (r .count) (r .entry) ⌝ }
 {
     let from = nodes::start(table, k);
@@ -231,14 +225,7 @@ fn entry_fault(text: &[u8], table: &[u32], v: usize, k: usize, count: usize, bes
 }
 
 // Rule 6 at the name at node k, where names before it have entries of a trie, whose values are a third of their nodes.
-fn entry_at(
-    text: &[u8],
-    table: &[u32],
-    trie: &mut [u16; 327680],
-    count: usize,
-    k: usize,
-    best: u32,
-) -> Turn
+fn entry_at(text: &[u8], table: &[u32], trie: &mut [u16], count: usize, k: usize, best: u32) -> Turn
     requires { ⌜ EntryAt (now text) (now table) (now trie) count k ⌝ }
     ensures { λ r. ⌜ EntryGives (now (text .entry)) (now (table .entry)) (now (trie .entry)) count (now (trie .exit)) (r .count) k best (r .least) ⌝ }
 {
@@ -269,17 +256,12 @@ fn entry_at(
     entry_fault(text, table, v, k, c, best)
 }
 
-// Rule 6 at a node, if an object stands there, by a trie of its names. 0 if the trie has no room.
-fn entered_in(text: &[u8], table: &[u32], trie: &mut [u16; 327680], i: usize, best: u32) -> u32
-    requires { ⌜ (AnyPart (now text) (now table) i) × (length (now trie) ≡ 327680) ⌝ }
-    ensures { λ r. ⌜ (PartTells 1 6 own6 (now (text .entry)) (now (table .entry)) i best r) × (length (now (trie .exit)) ≡ 327680) ⌝ }
+// Rule 6 in the object at node i, by a trie of its names, which has none yet. 0 if the trie has no room.
+fn entered_names(text: &[u8], table: &[u32], trie: &mut [u16], i: usize, best: u32) -> u32
+    requires { ⌜ FreshObject (now text) (now table) (now trie) i ⌝ }
+    ensures { λ r. ⌜ PartTells 1 6 own6 (now (text .entry)) (now (table .entry)) i best r ⌝ }
 {
-    let at = nodes::start(table, i);
-    if text[at] != b'{' {
-        return best;
-    }
     let n = nodes::next(table, i);
-    trie::clear(trie);
     let mut least = best;
     let mut count = 1;
     let mut k = i + 3;
@@ -295,19 +277,70 @@ fn entered_in(text: &[u8], table: &[u32], trie: &mut [u16; 327680], i: usize, be
     least
 }
 
+// The same, whatever the trie had before.
+fn entered_object(text: &[u8], table: &[u32], trie: &mut [u16], i: usize, best: u32) -> u32
+    requires { ⌜ TrieObject (now text) (now table) (now trie) i ⌝ }
+    ensures { λ r. ⌜ PartTells 1 6 own6 (now (text .entry)) (now (table .entry)) i best r ⌝ }
+{
+    trie::clear(trie);
+    entered_names(text, table, trie, i, best)
+}
+
+// The same at a node, if an object stands there.
+fn entered_in(text: &[u8], table: &[u32], trie: &mut [u16], i: usize, best: u32) -> u32
+    requires { ⌜ (AnyPart (now text) (now table) i) × (TrieRoom (now trie)) ⌝ }
+    ensures { λ r. ⌜ PartTells 1 6 own6 (now (text .entry)) (now (table .entry)) i best r ⌝ }
+{
+    let at = nodes::start(table, i);
+    if text[at] != b'{' {
+        return best;
+    }
+    entered_object(text, table, trie, i, best)
+}
+
 // Rule 6 in the tree whose table has n words, by tries: the time grows with the bytes of the names, whatever they are. 0 if a trie has no room.
-fn entered(text: &[u8], table: &[u32], n: usize, best: u32) -> u32
-    requires { ⌜ Root (now text) (now table) n ⌝ }
+fn entered(text: &[u8], table: &[u32], trie: &mut [u16], n: usize, best: u32) -> u32
+    requires { ⌜ (Root (now text) (now table) n) × (TrieRoom (now trie)) ⌝ }
     ensures { λ r. ⌜ TreeTells 1 (now (text .entry)) (now (table .entry)) best r ⌝ }
 {
-    let mut trie: [u16; 327680] = [0; 327680];
     let mut least = best;
     let mut k = 0;
     while k < n {
-        least = entered_in(text, table, &mut trie, k, least);
+        least = entered_in(text, table, trie, k, least);
         k += 3;
     }
     least
+}
+
+// The same with room for 4,096 entries. Few entries are cleared sooner.
+fn entered_few(text: &[u8], table: &[u32], n: usize, best: u32) -> u32
+    requires { ⌜ Root (now text) (now table) n ⌝ }
+    ensures { λ r. ⌜ TreeTells 1 (now (text .entry)) (now (table .entry)) best r ⌝ }
+{
+    let mut space: [u16; 20480] = [0; 20480];
+    let trie: &mut [u16] = &mut space;
+    entered(text, table, trie, n, best)
+}
+
+// The same with room for 65,536 entries.
+fn entered_many(text: &[u8], table: &[u32], n: usize, best: u32) -> u32
+    requires { ⌜ Root (now text) (now table) n ⌝ }
+    ensures { λ r. ⌜ TreeTells 1 (now (text .entry)) (now (table .entry)) best r ⌝ }
+{
+    let mut space: [u16; 327680] = [0; 327680];
+    let trie: &mut [u16] = &mut space;
+    entered(text, table, trie, n, best)
+}
+
+// The same with room that suits the text: the names of an object have fewer bytes than it.
+fn entered_long(text: &[u8], table: &[u32], n: usize, best: u32) -> u32
+    requires { ⌜ Root (now text) (now table) n ⌝ }
+    ensures { λ r. ⌜ TreeTells 1 (now (text .entry)) (now (table .entry)) best r ⌝ }
+{
+    if text.len() <= 4096 {
+        return entered_few(text, table, n, best);
+    }
+    entered_many(text, table, n, best)
 }
 
 // Rule 6 in the tree whose table has n words, with links for the names. 0 if a chain is too long, which no chain is without links.
@@ -329,7 +362,7 @@ fn again(text: &[u8], table: &[u32], n: usize, best: u32) -> u32
     requires { ⌜ Root (now text) (now table) n ⌝ }
     ensures { λ r. ⌜ Gives (λ v. least best (map (fault 6) (rule6 v))) (now (text .entry)) (now (table .entry)) 0 r ⌝ }
 {
-    let r = entered(text, table, n, best);
+    let r = entered_long(text, table, n, best);
     if r != 0 {
         return r;
     }
@@ -380,8 +413,8 @@ fn repeated_large(text: &[u8], table: &[u32], n: usize, best: u32) -> u32
     r
 }
 
-// Rule 6 in the tree whose table has n words: in any object.
-pub fn repeated(text: &[u8], table: &[u32], n: usize, best: u32) -> u32
+// The same with links of a number that suits the tree.
+fn repeated_long(text: &[u8], table: &[u32], n: usize, best: u32) -> u32
     requires { ⌜ Root (now text) (now table) n ⌝ }
     ensures { λ r. ⌜ Gives (λ v. least best (map (fault 6) (rule6 v))) (now (text .entry)) (now (table .entry)) 0 r ⌝ }
 {
@@ -392,4 +425,34 @@ pub fn repeated(text: &[u8], table: &[u32], n: usize, best: u32) -> u32
         return repeated_middle(text, table, n, best);
     }
     repeated_large(text, table, n, best)
+}
+
+// The same of a short text: by few links, and by small tries where a chain is too long. These have room for all its names,
+// but the long way is a function with a frame of its own because it is called from here too.
+fn repeated_short(text: &[u8], table: &[u32], n: usize, best: u32) -> u32
+    requires { ⌜ Root (now text) (now table) n ⌝ }
+    ensures { λ r. ⌜ Gives (λ v. least best (map (fault 6) (rule6 v))) (now (text .entry)) (now (table .entry)) 0 r ⌝ }
+{
+    let mut space: [u32; 2065] = [0; 2065];
+    let links: &mut [u32] = &mut space;
+    let a = pass(text, table, links, n, best);
+    if a != 0 {
+        return a;
+    }
+    let b = entered_few(text, table, n, best);
+    if b != 0 {
+        return b;
+    }
+    repeated_long(text, table, n, best)
+}
+
+// Rule 6 in the tree whose table has n words: in any object. The table of a short text has room for at most 6,195.
+pub fn repeated(text: &[u8], table: &[u32], n: usize, best: u32) -> u32
+    requires { ⌜ Root (now text) (now table) n ⌝ }
+    ensures { λ r. ⌜ Gives (λ v. least best (map (fault 6) (rule6 v))) (now (text .entry)) (now (table .entry)) 0 r ⌝ }
+{
+    if table.len() <= 6195 {
+        return repeated_short(text, table, n, best);
+    }
+    repeated_long(text, table, n, best)
 }

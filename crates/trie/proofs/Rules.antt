@@ -28,7 +28,7 @@ module _ {t : List ℕ} {c b s : ℕ} where
   seek-begin {a} {m} l e f = record { low = omega arith; goes = λ z p. rw (f ∙ e) at p }
 
   module _ {q m : ℕ} (k : Seeks t c b s q m) where
-    pub seek-low : c ≤ 65536 → q < 327680
+    pub seek-low : c * 5 ≤ length t → q < length t
     seek-low h = omega (arith, k .low)
 
     module _ {e : ℕ} (o : e ≡ getD t q 0) where
@@ -43,22 +43,22 @@ module _ {t : List ℕ} {c b s : ℕ} where
         seek-again d =
             record { low = omega arith; goes = λ z p. k .goes z (next (k .low) (rw (← o) l) (λ z. n (o ∙ z)) (λ y. d (rw o y ∙ sym i)) (rw (← o) p)) }
 
-  pub seek-lost : Sought t c b s 327680
+  pub seek-lost : Sought t c b s (length t)
   seek-lost = record { told = λ l. absurd (omega arith) }
 
 pub ruleset seeks = (needs, seek-begin, seek-low, seek-none, seek-found, seek-again, seek-lost)
 
 -- ---- one entry more
 
-same-in : (t : List ℕ) (i v : ℕ) → length t ≡ 327680 → i < 327680 → getD (set t i v) i 0 ≡ v
+same-in : {m : ℕ} (t : List ℕ) (i v : ℕ) → length t ≡ m → i < m → getD (set t i v) i 0 ≡ v
 same-in t i v n l = getD-set-same t i v 0 (rw n l)
 
-set-room : (t : List ℕ) (i v : ℕ) → length t ≡ 327680 → length (set t i v) ≡ 327680
+set-room : {m : ℕ} (t : List ℕ) (i v : ℕ) → length t ≡ m → length (set t i v) ≡ m
 set-room t i v n = length-set t i v ∙ n
 
-pub grown : (t : List ℕ) (w c b a : ℕ) → w < c * 5 → c < 65536 → length t ≡ 327680 → a ≡ b
+pub grown : (t : List ℕ) (w c b a : ℕ) → w < c * 5 → c * 5 + 5 ≤ length t → a ≡ b
     → Grown t (set (set (set (set (set (set t (c * 5) 0) (c * 5 + 1) 0) (c * 5 + 2) 0) (c * 5 + 3) a) (c * 5 + 4) 0) w c) w c b
-grown t w c b a l h n q =
+grown t w c b a l h q =
     record {
       room = set-room t₅ w c r₅;
       held = same-in t₅ w c r₅ (omega arith);
@@ -93,19 +93,22 @@ grown t w c b a l h n q =
     t₅ : List ℕ
     t₅ = set t₄ (c * 5 + 4) 0
 
-    r₁ : length t₁ ≡ 327680
+    n : length t ≡ length t
+    n = refl
+
+    r₁ : length t₁ ≡ length t
     r₁ = set-room t (c * 5) 0 n
 
-    r₂ : length t₂ ≡ 327680
+    r₂ : length t₂ ≡ length t
     r₂ = set-room t₁ (c * 5 + 1) 0 r₁
 
-    r₃ : length t₃ ≡ 327680
+    r₃ : length t₃ ≡ length t
     r₃ = set-room t₂ (c * 5 + 2) 0 r₂
 
-    r₄ : length t₄ ≡ 327680
+    r₄ : length t₄ ≡ length t
     r₄ = set-room t₃ (c * 5 + 3) a r₃
 
-    r₅ : length t₅ ≡ 327680
+    r₅ : length t₅ ≡ length t
     r₅ = set-room t₄ (c * 5 + 4) 0 r₄
 
     past₂ : (i : ℕ) → (i ≡ c * 5 + 1 → ⊥) → getD t₂ i 0 ≡ getD t₁ i 0
@@ -200,13 +203,13 @@ module _ {t t′ : List ℕ} {w c b : ℕ} (g : Grown t t′ w c b) (h : w < c *
 
 -- ---- one byte
 
-pub walks-lost : (t : List ℕ) (c s : ℕ) (u t′ : List ℕ) (r : ℕ) → length t′ ≡ 327680 → Walks t c s u t′ 0 r
+pub walks-lost : (t : List ℕ) (c s : ℕ) (u t′ : List ℕ) (r : ℕ) → length t′ ≡ length t → Walks t c s u t′ 0 r
 walks-lost t c s u t′ r n = record { room = n; told = λ z. absurd (z refl) }
 
 keeps-same : (t : List ℕ) (c : ℕ) → Keeps t c t c
 keeps-same t c = record { more = omega arith; reaches = λ s u r p. p; values = λ e h. refl; fresh = λ e h k. absurd (omega arith) }
 
-module _ {t : List ℕ} {c s b w : ℕ} (f : Sought t c b s w) (i : w < 327680) where
+module _ {t : List ℕ} {c s b w : ℕ} (f : Sought t c b s w) (i : w < length t) where
   pub sought-room : w < c * 5
   sought-room = meets-room (f .told i)
 
@@ -214,13 +217,13 @@ module _ {t : List ℕ} {c s b w : ℕ} (f : Sought t c b s w) (i : w < 327680) 
   sought-slot = meets-slot (omega arith) (f .told i)
 
   module _ {m : ℕ} (q : m ≡ getD t w 0) (l : s < c) where
-    pub walks-child : c ≤ 65536 → length t ≡ 327680 → (m ≡ 0 → ⊥) → Walks t c s (b ∷ []) t c m
-    walks-child h n z =
+    pub walks-child : c * 5 ≤ length t → (m ≡ 0 → ⊥) → Walks t c s (b ∷ []) t c m
+    walks-child h z =
         let d : m < c = rw q (meets-low (f .told i) (λ y. z (q ∙ y))) in
         let p : Child t c s b m = record { inside = l; slot = w; meets = f .told i; is = sym q; some = z } in
-        record { room = n; told = λ o. record { keeps = keeps-same t c; reaches = on p stop; inside = d; few = h } }
+        record { room = refl; told = λ o. record { keeps = keeps-same t c; reaches = on p stop; inside = d; few = h } }
 
-    pub walks-grown : {t′ : List ℕ} → c < 65536 → m ≡ 0 → Grown t t′ w c b → Walks t c s (b ∷ []) t′ (c + 1) c
+    pub walks-grown : {t′ : List ℕ} → c * 5 + 5 ≤ length t → m ≡ 0 → Grown t t′ w c b → Walks t c s (b ∷ []) t′ (c + 1) c
     walks-grown h z g =
         let y : getD t w 0 ≡ 0 = sym q ∙ z in
         record {
@@ -229,7 +232,7 @@ module _ {t : List ℕ} {c s b w : ℕ} (f : Sought t c b s w) (i : w < 327680) 
             keeps = keeps-grown g sought-room sought-slot y;
             reaches = on (child-new g sought-room sought-slot y l (f .told i)) stop;
             inside = omega arith;
-            few = omega arith;
+            few = omega (arith, g .room);
           };
         }
 
@@ -260,29 +263,29 @@ module _ {t t₁ t′ : List ℕ} {c c₁ c′ : ℕ} (k : Keeps t c t₁ c₁) 
 
 -- the bytes `all` from the entry s₀ on: those before `rest` lead to the entry s
 pub record Walking (t₀ : List ℕ) (c₀ s₀ : ℕ) (all t : List ℕ) (c s : ℕ) (rest : List ℕ) : Type 0 where
-  pub room : length t ≡ 327680
+  pub room : length t ≡ length t₀
   before : List ℕ
   is : all ≡ before ++ rest
   walked : Walked t₀ c₀ s₀ before t c s
 
-pub walking-begin : {t : List ℕ} {c s : ℕ} (all : List ℕ) → s < c → c ≤ 65536 → length t ≡ 327680 → Walking t c s all t c s all
-walking-begin {t} {c} {s} all l h n = record { room = n; before = []; is = refl; walked = record { keeps = keeps-same t c; reaches = stop; inside = l; few = h } }
+pub walking-begin : {t : List ℕ} {c s : ℕ} (all : List ℕ) → s < c → c * 5 ≤ length t → Walking t c s all t c s all
+walking-begin {t} {c} {s} all l h = record { room = refl; before = []; is = refl; walked = record { keeps = keeps-same t c; reaches = stop; inside = l; few = h } }
 
 module _ {t₀ : List ℕ} {c₀ s₀ : ℕ} {all t : List ℕ} {c s : ℕ} {rest : List ℕ} (k : Walking t₀ c₀ s₀ all t c s rest) where
   pub walking-inside : s < c
   walking-inside = k .walked .inside
 
-  pub walking-few : c ≤ 65536
+  pub walking-few : c * 5 ≤ length t
   walking-few = k .walked .few
 
-  pub walking-room : length t ≡ 327680
-  walking-room = k .room
+  pub walking-room : length t₀ ≤ 327680 → length t ≤ 327680
+  walking-room h = rw (k .room) h
 
   -- the rest leads on
   walking-rest : {t′ : List ℕ} {c′ r : ℕ} → Walks t c s rest t′ c′ r → Walks t₀ c₀ s₀ all t′ c′ r
   walking-rest w =
       record {
-        room = w .room;
+        room = w .room ∙ k .room;
         told = λ z.
             let y = w .told z in
             record {
@@ -301,13 +304,13 @@ module _ {t₀ : List ℕ} {c₀ s₀ : ℕ} {all t : List ℕ} {c s : ℕ} {res
   -- one byte more
   module _ {b : ℕ} {t′ : List ℕ} {c′ r : ℕ} (w : Walks t c s (b ∷ []) t′ c′ r) where
     pub walking-lost : c′ ≡ 0 → Walks t₀ c₀ s₀ all t′ c′ r
-    walking-lost z = record { room = w .room; told = λ n. absurd (n z) }
+    walking-lost z = record { room = w .room ∙ k .room; told = λ n. absurd (n z) }
 
     walking-more : {m : List ℕ} → rest ≡ b ∷ m → (c′ ≡ 0 → ⊥) → Walking t₀ c₀ s₀ all t′ c′ r m
     walking-more {m} q z =
         let y = w .told z in
         record {
-          room = w .room;
+          room = w .room ∙ k .room;
           before = k .before ++ (b ∷ []);
           is = k .is ∙ rw (q, append-assoc);
           walked =
@@ -343,12 +346,12 @@ pub ruleset walks = (needs, onward, walking-begin, walking-inside, walking-few, 
 
 -- ---- values
 
-pub emptied : (t : List ℕ) → length t ≡ 327680 → Emptied (set (set t 0 0) 4 0)
+pub emptied : (t : List ℕ) → 5 ≤ length t → Emptied t (set (set t 0 0) 4 0)
 emptied t n =
-    let r = set-room t 0 0 n in
+    let r : length (set t 0 0) ≡ length t = set-room t 0 0 refl in
     record {
       room = set-room (set t 0 0) 4 0 r;
-      child = getD-set-other (set t 0 0) 4 0 0 0 (λ z. omega arith) ∙ same-in t 0 0 n (omega arith);
+      child = getD-set-other (set t 0 0) 4 0 0 0 (λ z. omega arith) ∙ same-in t 0 0 refl (omega arith);
       value = same-in (set t 0 0) 4 0 r (omega arith);
     }
 
@@ -371,11 +374,11 @@ module _ (t t′ : List ℕ) (h : (i : ℕ) → i % 5 < 4 → getD t′ i 0 ≡ 
   reaches-same stop = stop
   reaches-same (on p q) = on (child-same p) (reaches-same q)
 
-pub put-told : (t : List ℕ) (e v : ℕ) → e < 65536 → length t ≡ 327680 → Puts t (set t (e * 5 + 4) v) e v
-put-told t e v l n =
+pub put-told : (t : List ℕ) (e v : ℕ) → e * 5 + 5 ≤ length t → Puts t (set t (e * 5 + 4) v) e v
+put-told t e v l =
     record {
-      room = set-room t (e * 5 + 4) v n;
-      value = same-in t (e * 5 + 4) v n (omega arith);
+      room = set-room t (e * 5 + 4) v refl;
+      value = same-in t (e * 5 + 4) v refl (omega arith);
       values = λ f d. getD-set-other t (e * 5 + 4) (f * 5 + 4) v 0 (λ z. d (omega arith));
       reaches = λ c s u r p. reaches-same t (set t (e * 5 + 4) v) (λ i k. getD-set-other t (e * 5 + 4) i v 0 (λ z. omega arith)) p;
     }

@@ -33,7 +33,7 @@ pub data Reaches (t : List ℕ) (c : ℕ) : ℕ → List ℕ → ℕ → Type 0 
 
 -- t′ is the trie t with the entry c in the slot w, by the byte b
 pub record Grown (t t′ : List ℕ) (w c b : ℕ) : Type 0 where
-  pub room : length t′ ≡ 327680
+  pub room : length t′ ≡ length t
   pub held : getD t′ w 0 ≡ c
   pub child : getD t′ (c * 5) 0 ≡ 0
   pub left : getD t′ (c * 5 + 1) 0 ≡ 0
@@ -54,26 +54,26 @@ pub record Walked (t : List ℕ) (c s : ℕ) (u t′ : List ℕ) (c′ r : ℕ) 
   pub keeps : Keeps t c t′ c′
   pub reaches : Reaches t′ c′ s u r
   pub inside : r < c′
-  pub few : c′ ≤ 65536
+  pub few : c′ * 5 ≤ length t′
 
 -- r is the slot to which the search for the byte b among the children of the entry s goes, if it is a slot at all
 pub record Sought (t : List ℕ) (c b s r : ℕ) : Type 0 where
-  pub told : r < 327680 → Meets t c b (s * 5) b r
+  pub told : r < length t → Meets t c b (s * 5) b r
 
 -- the same as Walked, unless the way was given up (c′ is 0)
 pub record Walks (t : List ℕ) (c s : ℕ) (u t′ : List ℕ) (c′ r : ℕ) : Type 0 where
-  pub room : length t′ ≡ 327680
+  pub room : length t′ ≡ length t
   pub told : (c′ ≡ 0 → ⊥) → Walked t c s u t′ c′ r
 
--- a root alone, with no value
-pub record Emptied (t : List ℕ) : Type 0 where
-  pub room : length t ≡ 327680
+-- t is the trie t₀ with a root alone, which has no value
+pub record Emptied (t₀ t : List ℕ) : Type 0 where
+  pub room : length t ≡ length t₀
   pub child : getD t 0 0 ≡ 0
   pub value : valueOf t 0 ≡ 0
 
 -- t′ is the trie t with the value v at the entry e
 pub record Puts (t t′ : List ℕ) (e v : ℕ) : Type 0 where
-  pub room : length t′ ≡ 327680
+  pub room : length t′ ≡ length t
   pub value : valueOf t′ e ≡ v
   pub values : (f : ℕ) → (f ≡ e → ⊥) → valueOf t′ f ≡ valueOf t f
   pub reaches : (c s : ℕ) (u : List ℕ) (r : ℕ) → Reaches t c s u r → Reaches t′ c s u r

@@ -1,6 +1,6 @@
 // A trie of texts in a flat array. An entry has five words: three slots, then the byte that leads to it, and a value of the caller's.
 // A slot holds an entry, or 0: the first slot the root of the tree of its children, the others those to its left and right in the tree that it is in.
-// Entry 0 is that of the empty text. A `Place` is an entry and the count of the entries; its count is 0 if the way was given up.
+// Entry 0 is that of the empty text. The array has at most 327,680 words, 65,536 entries. A `Place` is an entry and the count of the entries; its count is 0 if the way was given up.
 ghost use Prim.Native.Nat.{_+_, _*_, _%_, _≤_, _<_};
 ghost use mathlib.Core.Path.{_≡_};
 ghost use mathlib.Core.List.{[], _∷_};
@@ -28,10 +28,10 @@ fn word(b: u8) -> u16
     b as u16
 }
 
-// The slot that holds the child of the entry s by the byte b, or 0 if there is none; 327,680 if the search was given up.
+// The slot that holds the child of the entry s by the byte b, or 0 if there is none; the length of the array if the search was given up.
 // The children of an entry are a digital tree: to the left or to the right of one by the next bit of the byte, from the lowest.
-fn slot_of(trie: &[u16; 327680], s: usize, c: usize, b: u8) -> usize
-    requires { ⌜ (s < c) × (c ≤ 65536) ⌝ }
+fn slot_of(trie: &[u16], s: usize, c: usize, b: u8) -> usize
+    requires { ⌜ (s < c) × (c * 5 ≤ length (now trie)) ⌝ }
     ensures { λ r. ⌜ Sought (now (trie .entry)) c b s r ⌝ }
 {
     let sought = word(b);
@@ -41,7 +41,7 @@ fn slot_of(trie: &[u16; 327680], s: usize, c: usize, b: u8) -> usize
     while left != 0 {
         let e = wide(trie[q]);
         if e >= c {
-            return 327680;
+            return trie.len();
         }
         if e == 0 {
             return q;
@@ -53,12 +53,12 @@ fn slot_of(trie: &[u16; 327680], s: usize, c: usize, b: u8) -> usize
         bits = bits / 2;
         left -= 1;
     }
-    327680
+    trie.len()
 }
 
 // Appends the entry c, to which the byte b leads, and puts it into the slot w.
-fn grow(trie: &mut [u16; 327680], w: usize, c: usize, b: u8)
-    requires { ⌜ (w < c * 5) × (w % 5 < 3) × (c < 65536) × (length (now trie) ≡ 327680) ⌝ }
+fn grow(trie: &mut [u16], w: usize, c: usize, b: u8)
+    requires { ⌜ (w < c * 5) × (w % 5 < 3) × (c * 5 + 5 ≤ length (now trie)) × (length (now trie) ≤ 327680) ⌝ }
     ensures { λ _. ⌜ Grown (now (trie .entry)) (now (trie .exit)) w c b ⌝ }
 {
     trie[c * 5] = 0;
@@ -70,21 +70,21 @@ fn grow(trie: &mut [u16; 327680], w: usize, c: usize, b: u8)
 }
 
 // From an entry by one byte, to an entry that is appended if there is none.
-fn step(trie: &mut [u16; 327680], from: Place, b: u8) -> Place
-    requires { ⌜ (from .entry < from .count) × (from .count ≤ 65536) × (length (now trie) ≡ 327680) ⌝ }
+fn step(trie: &mut [u16], from: Place, b: u8) -> Place
+    requires { ⌜ (from .entry < from .count) × (from .count * 5 ≤ length (now trie)) × (length (now trie) ≤ 327680) ⌝ }
     ensures { λ r. ⌜ Walks (now (trie .entry)) (from .count) (from .entry) (b ∷ []) (now (trie .exit)) (r .count) (r .entry) ⌝ }
 {
     let s = from.entry;
     let c = from.count;
     let w = slot_of(trie, s, c, b);
-    if w >= 327680 {
+    if w >= trie.len() {
         return Place { entry: 0, count: 0 };
     }
     let m = wide(trie[w]);
     if m != 0 {
         return Place { entry: m, count: c };
     }
-    if c >= 65536 {
+    if c * 5 + 5 > trie.len() {
         return Place { entry: 0, count: 0 };
     }
     grow(trie, w, c, b);
@@ -95,8 +95,8 @@ fn step(trie: &mut [u16; 327680], from: Place, b: u8) -> Place
 }
 
 // From an entry by the bytes that the cursor has ahead.
-fn walk_ahead(text: &[u8], from: strings::Cursor, trie: &mut [u16; 327680], begin: Place) -> Place
-    requires { ⌜ (Span (now text) (from .at) (from .end)) × (begin .entry < begin .count) × (begin .count ≤ 65536) × (length (now trie) ≡ 327680) ⌝ }
+fn walk_ahead(text: &[u8], from: strings::Cursor, trie: &mut [u16], begin: Place) -> Place
+    requires { ⌜ (Span (now text) (from .at) (from .end)) × (begin .entry < begin .count) × (begin .count * 5 ≤ length (now trie)) × (length (now trie) ≤ 327680) ⌝ }
     ensures { λ r. ⌜ Walks (now (trie .entry)) (begin .count) (begin .entry) (ahead (now (text .entry)) from) (now (trie .exit)) (r .count) (r .entry) ⌝ }
 {
     let mut c = from;
@@ -115,8 +115,8 @@ fn walk_ahead(text: &[u8], from: strings::Cursor, trie: &mut [u16; 327680], begi
 }
 
 // From the root by the bytes that a string stands for. The way is given up where there is no room.
-pub fn walk(text: &[u8], at: usize, end: usize, trie: &mut [u16; 327680], count: usize) -> Place
-    requires { ⌜ (Span (now text) at end) × (0 < count) × (count ≤ 65536) × (length (now trie) ≡ 327680) ⌝ }
+pub fn walk(text: &[u8], at: usize, end: usize, trie: &mut [u16], count: usize) -> Place
+    requires { ⌜ (Span (now text) at end) × (0 < count) × (count * 5 ≤ length (now trie)) × (length (now trie) ≤ 327680) ⌝ }
     ensures { λ r. ⌜ Walks (now (trie .entry)) count 0 (decodeAt (now (text .entry)) at end) (now (trie .exit)) (r .count) (r .entry) ⌝ }
 {
     let mut i = at;
@@ -149,25 +149,25 @@ pub fn walk(text: &[u8], at: usize, end: usize, trie: &mut [u16; 327680], count:
 }
 
 // Leaves the root alone, with no value.
-pub fn clear(trie: &mut [u16; 327680])
-    requires { ⌜ length (now trie) ≡ 327680 ⌝ }
-    ensures { λ _. ⌜ Emptied (now (trie .exit)) ⌝ }
+pub fn clear(trie: &mut [u16])
+    requires { ⌜ 5 ≤ length (now trie) ⌝ }
+    ensures { λ _. ⌜ Emptied (now (trie .entry)) (now (trie .exit)) ⌝ }
 {
     trie[0] = 0;
     trie[4] = 0;
 }
 
 // The value of an entry.
-pub fn value(trie: &[u16; 327680], entry: usize) -> usize
-    requires { ⌜ entry < 65536 ⌝ }
+pub fn value(trie: &[u16], entry: usize) -> usize
+    requires { ⌜ entry * 5 + 5 ≤ length (now trie) ⌝ }
     ensures { λ r. ⌜ (r ≡ valueOf (now (trie .entry)) entry) × (r < 65536) ⌝ }
 {
     wide(trie[entry * 5 + 4])
 }
 
 // Gives an entry a value.
-pub fn put(trie: &mut [u16; 327680], entry: usize, value: usize)
-    requires { ⌜ (entry < 65536) × (value < 65536) × (length (now trie) ≡ 327680) ⌝ }
+pub fn put(trie: &mut [u16], entry: usize, value: usize)
+    requires { ⌜ (entry * 5 + 5 ≤ length (now trie)) × (value < 65536) ⌝ }
     ensures { λ _. ⌜ Puts (now (trie .entry)) (now (trie .exit)) entry value ⌝ }
 {
     trie[entry * 5 + 4] = value as u16;

@@ -105,6 +105,7 @@ fn texts() -> Vec<(u8, &'static str, Vec<u8>)> {
         (13, "vertices out of range", out_of_range(8_000)),
         (0, "1,024 objects", objects(1_024)),
         (9, "1,025 objects", objects(1_025)),
+        (0, "1,024 objects with links", pairs(512)),
         (0, "a family", family("CityFurniture", true)),
         (0, "a group", family("CityObjectGroup", false)),
         (
@@ -130,7 +131,39 @@ fn texts() -> Vec<(u8, &'static str, Vec<u8>)> {
         (0, "many geometries", many_geometries(1_100)),
         (0, "many values", many_values(13_000)),
         (0, "many surfaces", many_surfaces(3_000)),
+        (0, "a dense quarter", filled(dense(64, 1_100), 64_000)),
+        (
+            0,
+            "4,096 bytes of arrays",
+            filled(with_metadata(&list("[]", 1_300)), 4_096),
+        ),
+        (0, "4,096 bytes of objects", filled(objects(180), 4_096)),
+        (
+            0,
+            "4,096 bytes of objects with links",
+            filled(pairs(50), 4_096),
+        ),
+        (
+            0,
+            "4,096 bytes of names of one chain",
+            filled(with_metadata(&alike_names(130, "")), 4_096),
+        ),
+        (4, "4,096 bytes of open arrays", vec![b'['; 4_096]),
+        (0, "4,097 bytes of objects", filled(objects(180), 4_097)),
+        (
+            0,
+            "4,097 bytes of names of one chain",
+            filled(with_metadata(&alike_names(130, "")), 4_097),
+        ),
     ]
+}
+
+/// A text with line feeds after it, of the given length.
+fn filled(text: Vec<u8>, length: usize) -> Vec<u8> {
+    let mut filled = text;
+    assert!(filled.len() <= length, "{} bytes", filled.len());
+    filled.resize(length, b'\n');
+    filled
 }
 
 /// A value written `count` times with commas between.
@@ -194,6 +227,35 @@ fn objects(count: usize) -> Vec<u8> {
     let object = |number| format!(r#""{number}":{{"type":"Road"}}"#);
     let list: Vec<String> = (0..count).map(object).collect();
     document(&list.join(","), "").into_bytes()
+}
+
+/// Objects of which each second one is the child of the one before it.
+fn pairs(count: usize) -> Vec<u8> {
+    let pair = |n| {
+        let parent = format!(r#""{n}":{{"type":"Road","children":["{n}c"]}}"#);
+        format!(r#"{parent},"{n}c":{{"type":"Road","parents":["{n}"]}}"#)
+    };
+    let list: Vec<String> = (0..count).map(pair).collect();
+    document(&list.join(","), "").into_bytes()
+}
+
+/// Buildings of 24 walls each.
+fn dense(buildings: usize, vertices: usize) -> Vec<u8> {
+    let wall = |k: usize| format!("[[{},{},{},{}]]", k, k + 1, k + 101, k + 100);
+    let building = |n: usize| {
+        let walls: Vec<String> = (n..n + 24).map(wall).collect();
+        let values = list("0", 24);
+        let semantics = format!(r#"{{"surfaces":[{{"type":"WallSurface"}}],"values":[{values}]}}"#);
+        let solid = format!(
+            r#"{{"type":"Solid","lod":"2.2","boundaries":[[{}]],"semantics":{semantics}}}"#,
+            walls.join(",")
+        );
+        format!(r#""b{n}":{{"type":"Building","geometry":[{solid}]}}"#)
+    };
+    let objects: Vec<String> = (0..buildings).map(building).collect();
+    let vertex = |k: usize| format!("[{},{},{}]", 17 * k, -12 * k as i64, 3_000);
+    let vertices: Vec<String> = (0..vertices).map(vertex).collect();
+    document(&objects.join(","), &vertices.join(",")).into_bytes()
 }
 
 /// One object with 1,000 children, which list it as parent or list none.

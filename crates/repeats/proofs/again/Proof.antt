@@ -9,7 +9,7 @@ again-spec =
     tie.close
     (tie.spec
     (λ c κs. search ways)
-    (λ c. search (ways, c .before .entered .ensures))
+    (λ c. search (ways, c .before .entered-long .ensures))
     (λ c. search ways)
     (λ c. search ways)
     (λ c. search ways)

@@ -12,4 +12,5 @@ entry-of-spec =
     (λ c. search texts)
     (λ c. search texts)
     (λ c κs. search texts)
+    (λ c. search texts)
     (λ c. search texts))

@@ -1,4 +1,6 @@
 -- `trie::grow` meets its contract.
+use native.Mathlib.Omega.{arith}
+use lib.ListN.{length-set}
 use Rattle.trie.proofs.Rules.{grows}
 use Rattle.trie.proofs.grow.Statement.{statement}
 use Rattle.trie.proofs.grow.Tie as tie
@@ -13,21 +15,22 @@ grow-spec =
     (λ c. search grows)
     (λ c. search grows)
     (λ c. search grows)
+    (λ c. simp length-set (omega arith))
     (λ c. search grows)
     (λ c. search grows)
     (λ c. search grows)
-    (λ c. search grows)
-    (λ c. search grows)
+    (λ c. simp length-set (omega arith))
     (λ c κs. search grows)
     (λ c. search grows)
     (λ c. search grows)
     (λ c. search grows)
+    (λ c. simp length-set (omega arith))
     (λ c. search grows)
     (λ c. search grows)
     (λ c. search grows)
+    (λ c. simp length-set (omega arith))
     (λ c. search grows)
     (λ c. search grows)
-    (λ c. search grows)
-    (λ c. search grows)
+    (λ c. simp length-set (omega arith))
     (λ c. search grows)
     (λ c. search grows))

@@ -12,4 +12,5 @@ put-spec =
     (λ c. search values)
     (λ c. search values)
     (λ c. search values)
+    (λ c. search values)
     (λ c. search values))
