@@ -1,6 +1,7 @@
 // A trie of texts in a flat array. An entry has five words: three slots, then the byte that leads to it, and a value of the caller's.
 // A slot holds an entry, or 0: the first slot the root of the tree of its children, the others those to its left and right in the tree that it is in.
-// Entry 0 is that of the empty text. The array has at most 327,680 words, 65,536 entries. A `Place` is an entry and the count of the entries; its count is 0 if the way was given up.
+// Entry 0 is that of the empty text. The array has at most 327,680 words, 65,536 entries.
+// A `Place` is an entry and the count of the entries; its count is 0 if the way was given up.
 ghost use Prim.Native.Nat.{_+_, _*_, _%_, _≤_, _<_};
 ghost use mathlib.Core.Path.{_≡_};
 ghost use mathlib.Core.List.{[], _∷_};
@@ -96,7 +97,8 @@ fn step(trie: &mut [u16], from: Place, b: u8) -> Place
 
 // From an entry by the bytes that the cursor has ahead.
 fn walk_ahead(text: &[u8], from: strings::Cursor, trie: &mut [u16], begin: Place) -> Place
-    requires { ⌜ (Span (now text) (from .at) (from .end)) × (begin .entry < begin .count) × (begin .count * 5 ≤ length (now trie)) × (length (now trie) ≤ 327680) ⌝ }
+    requires { ⌜ (Span (now text) (from .at) (from .end)) × (begin .entry < begin .count) × (begin .count * 5 ≤ length (now trie))
+        × (length (now trie) ≤ 327680) ⌝ }
     ensures { λ r. ⌜ Walks (now (trie .entry)) (begin .count) (begin .entry) (ahead (now (text .entry)) from) (now (trie .exit)) (r .count) (r .entry) ⌝ }
 {
     let mut c = from;
