@@ -4,6 +4,8 @@
 //! The reader builds a JSON tree on the heap, collects every fault of every rule, and
 //! answers the least one; it shares no code and no method with the library.
 
+#[cfg(feature = "library")]
+pub mod c;
 pub mod compare;
 pub mod decimal;
 pub mod dump;

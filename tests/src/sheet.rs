@@ -146,6 +146,12 @@ fn records(mut bytes: &[u8]) -> Result<Records, String> {
     Ok(Records { list })
 }
 
+/// The payloads of the records of a kind, in order.
+pub fn payloads(bytes: &[u8], kind: u16) -> Result<Vec<Vec<u8>>, String> {
+    let records = records(bytes)?.list.into_iter().rev();
+    Ok(records.filter(|(found, _)| *found == kind).map(|(_, payload)| payload).collect())
+}
+
 fn split(bytes: &[u8], count: usize) -> Result<(&[u8], &[u8]), String> {
     if count > bytes.len() {
         return Err(format!("{count} bytes wanted, {} left", bytes.len()));

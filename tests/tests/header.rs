@@ -2,46 +2,22 @@
 //! run. The calls of lay come with the feature `lay`.
 
 use std::fs;
-use std::io::{self, ErrorKind, Write};
+use std::io::{self, Write};
 use std::path::{Path, PathBuf};
 use std::process::Command;
 
+use kebrawish_tests::c::{compile, header, library};
+
 const PACKAGE: &str = env!("CARGO_MANIFEST_DIR");
-
-/// The options under which the header has to pass.
-const STRICT: [&str; 4] = ["-Wall", "-Wextra", "-Werror", "-pedantic"];
-
-fn header() -> PathBuf {
-    Path::new(PACKAGE).join("../include/kebrawish.h")
-}
 
 /// A file in the folder of these tests' output.
 fn output(name: &str) -> PathBuf {
     Path::new(env!("CARGO_TARGET_TMPDIR")).join(name)
 }
 
-/// A compiler with the options and the header's folder; none if it is not installed.
-fn compile(compiler: &str, standard: &str, rest: &[&Path]) -> Option<()> {
-    let folder = header();
-    let run = Command::new(compiler)
-        .arg(format!("-std={standard}"))
-        .args(STRICT)
-        .arg("-I")
-        .arg(folder.parent().expect("the header's folder"))
-        .args(rest)
-        .output();
-    let run = match run {
-        Err(error) if error.kind() == ErrorKind::NotFound => return None,
-        run => run.expect("the compiler"),
-    };
-    let said = String::from_utf8_lossy(&run.stderr);
-    assert!(run.status.success(), "{compiler}: {said}");
-    Some(())
-}
-
 /// Compiles a C program, links it with the static library and runs it.
 fn run(source: &Path, name: &str) -> std::process::Output {
-    let library = Path::new(env!("KEBRAWISH_STATICLIB_FOLDER")).join("libkebrawish.a");
+    let library = library();
     let program = output(name);
     let define: &Path = if cfg!(feature = "lay") {
         Path::new("-DKEBRAWISH_LAY")

@@ -4,6 +4,7 @@
 use kebrawish_tests::compare::{self, LARGE_ROOM};
 use kebrawish_tests::pages::{page, rows, section};
 use kebrawish_tests::samples::document;
+use kebrawish_tests::sheet::payloads;
 use kebrawish_tests::Verdict;
 
 /// The bytes that a text of the page stands for: `⟨FF⟩` is a byte, `⟨33 × [⟩` what follows the
@@ -121,17 +122,7 @@ fn records(text: &str, kind: u16) -> Vec<Vec<u8>> {
     let Verdict::Accepted { length, .. } = verdict else {
         panic!("{verdict:?}: {text}");
     };
-    let mut rest = &sheet[..length];
-    let mut found = Vec::new();
-    while !rest.is_empty() {
-        let size = u32::from_le_bytes(rest[..4].try_into().expect("four bytes")) as usize;
-        let (record, after) = rest.split_at(6 + size);
-        if u16::from_le_bytes([record[4], record[5]]) == kind {
-            found.push(record[6..].to_vec());
-        }
-        rest = after;
-    }
-    found
+    payloads(&sheet[..length], kind).expect("a sheet")
 }
 
 /// The code that the only record of a kind begins with.

@@ -21,6 +21,12 @@ fn sheet(text: &str) -> Vec<u8> {
     bytes
 }
 
+/// The bytes that a dump has, after the offset of each line.
+fn bytes(dump: &str) -> Vec<u8> {
+    let hex = dump.lines().flat_map(|line| line[6..line.len().min(29)].split_whitespace());
+    hex.map(|byte| u8::from_str_radix(byte, 16).expect("a byte")).collect()
+}
+
 #[test]
 fn the_dump_of_the_kiosk() {
     let text = fs::read_to_string(root().join("examples/kiosk.city.json")).expect("an example");
@@ -29,9 +35,7 @@ fn the_dump_of_the_kiosk() {
     let (printed, _) = block.split_once("```").expect("its end");
     let sheet = sheet(&text);
     assert_eq!(printed, dump(&sheet));
-    let hex = printed.lines().flat_map(|line| line[6..29].split_whitespace());
-    let bytes: Vec<u8> = hex.map(|byte| u8::from_str_radix(byte, 16).expect("a byte")).collect();
-    assert_eq!((bytes.len(), bytes), (133, sheet));
+    assert_eq!((sheet.len(), bytes(printed)), (133, sheet));
 }
 
 /// Every kind of record has its lines: 3 to 8 of a text with links and semantics.
@@ -40,9 +44,7 @@ fn a_dump_has_every_byte() {
     let text = fs::read_to_string(root().join("examples/quarter.city.json")).expect("an example");
     let sheet = sheet(&text);
     let dump = dump(&sheet);
-    let hex = dump.lines().flat_map(|line| line[6..line.len().min(29)].split_whitespace());
-    let bytes: Vec<u8> = hex.map(|byte| u8::from_str_radix(byte, 16).expect("a byte")).collect();
-    assert_eq!(bytes, sheet);
+    assert_eq!(bytes(&dump), sheet);
     for note in ["object number 1", "surface 0", "19: an added one", "lod 2.2: 2 * 16 + 2"] {
         assert!(dump.contains(note), "{note}");
     }

@@ -5,6 +5,7 @@ use std::fs;
 use std::path::{Path, PathBuf};
 use std::process::Command;
 
+use kebrawish_tests::c::{compile, header, library};
 use kebrawish_tests::generate::{self, Large};
 
 const PACKAGE: &str = env!("CARGO_MANIFEST_DIR");
@@ -34,27 +35,17 @@ fn output(name: &str) -> PathBuf {
 /// The C program. Functions of other libraries are looked up before it starts, since the
 /// look-up would take stack of the first call.
 fn program() -> PathBuf {
-    let library = Path::new(env!("KEBRAWISH_STATICLIB_FOLDER")).join("libkebrawish.a");
+    let source = Path::new(PACKAGE).join("tests/stack.c");
+    let library = library();
     let program = output("stack");
-    let compiler = Command::new("cc")
-        .args(["-std=c99", "-Wall", "-Wextra", "-Werror", "-pedantic"])
-        .arg("-I")
-        .arg(Path::new(PACKAGE).join("../include"))
-        .arg(Path::new(PACKAGE).join("tests/stack.c"))
-        .arg(library)
-        .args(["-Wl,-z,now", "-o"])
-        .arg(&program)
-        .output()
-        .expect("a C compiler");
-    let said = String::from_utf8_lossy(&compiler.stderr);
-    assert!(compiler.status.success(), "{said}");
+    let rest = [&source, &library, Path::new("-Wl,-z,now"), Path::new("-o"), &program];
+    compile("cc", "c99", &rest).expect("a C compiler");
     program
 }
 
 /// The two figures of the header, in bytes: for any text, and for a short one.
 fn stated() -> (usize, usize) {
-    let header = Path::new(PACKAGE).join("../include/kebrawish.h");
-    let header = fs::read_to_string(header).expect("the header");
+    let header = fs::read_to_string(header()).expect("the header");
     let words: Vec<&str> = header.split_whitespace().collect();
     let figures: Vec<usize> = words
         .windows(2)
