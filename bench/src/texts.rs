@@ -15,7 +15,7 @@ pub const PRETTY: Kind = kind("the same, pretty-printed", 0, |limit| {
 });
 
 /// The texts that might be slow.
-pub const WORST: [Kind; 19] = [
+pub const WORST: [Kind; 21] = [
     kind("one object of many names", 0, |limit| {
         largest(limit, usize::MAX, |n| names(n, short))
     }),
@@ -86,9 +86,13 @@ pub const WORST: [Kind; 19] = [
         })
     }),
     kind("characters of two bytes", 0, |limit| {
-        largest(limit, usize::MAX, |n| {
-            metadata(&format!("\"{}\"", "é".repeat(n)))
-        })
+        characters(limit, "é")
+    }),
+    kind("characters of three bytes", 0, |limit| {
+        characters(limit, "\u{800}\u{20AC}\u{D7FF}\u{FFFD}")
+    }),
+    kind("characters of four bytes", 0, |limit| {
+        characters(limit, "\u{1F3E0}\u{40000}\u{10FFFF}")
     }),
     kind("white space", 3, |limit| " ".repeat(limit)),
 ];
@@ -121,6 +125,13 @@ fn city(objects: &str, vertices: &str) -> String {
 
 fn metadata(value: &str) -> String {
     city("", "").replacen('{', &format!(r#"{{"metadata":{value},"#), 1)
+}
+
+/// A string of these characters again and again: one for each row of their length in RFC 3629, section 4.
+fn characters(limit: usize, row: &str) -> String {
+    largest(limit, usize::MAX, |n| {
+        metadata(&format!("\"{}\"", row.repeat(n)))
+    })
 }
 
 /// The n-th of the shortest names.

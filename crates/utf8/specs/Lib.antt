@@ -2,8 +2,10 @@
 pub mod Ascii
 pub mod Bytes
 pub mod Utf8
+pub mod Rows
 pub mod Says
 pub mod Laws
+pub mod OneRow
 pub mod Meaning
 pub mod Splits
 pub mod Examples
