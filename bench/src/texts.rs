@@ -15,7 +15,7 @@ pub const PRETTY: Kind = kind("the same, pretty-printed", 0, |limit| {
 });
 
 /// The texts that might be slow.
-pub const WORST: [Kind; 21] = [
+pub const WORST: [Kind; 22] = [
     kind("one object of many names", 0, |limit| {
         largest(limit, usize::MAX, |n| names(n, short))
     }),
@@ -85,14 +85,15 @@ pub const WORST: [Kind; 21] = [
             city(&format!(r#""{}":{{"type":"Road"}}"#, "i".repeat(n)), "")
         })
     }),
-    kind("characters of two bytes", 0, |limit| {
-        characters(limit, "é")
-    }),
+    kind("characters of two bytes", 0, |limit| characters(limit, "é")),
     kind("characters of three bytes", 0, |limit| {
         characters(limit, "\u{800}\u{20AC}\u{D7FF}\u{FFFD}")
     }),
     kind("characters of four bytes", 0, |limit| {
         characters(limit, "\u{1F3E0}\u{40000}\u{10FFFF}")
+    }),
+    kind("one character of two bytes in 40 bytes", 0, |limit| {
+        characters(limit, "Kaiserstra\u{df}e 12, Haus am Markt, Hof 3; ")
     }),
     kind("white space", 3, |limit| " ".repeat(limit)),
 ];
@@ -127,10 +128,10 @@ fn metadata(value: &str) -> String {
     city("", "").replacen('{', &format!(r#"{{"metadata":{value},"#), 1)
 }
 
-/// A string of these characters again and again: one for each row of their length in RFC 3629, section 4.
-fn characters(limit: usize, row: &str) -> String {
+/// A string of these characters again and again. Those of three and of four bytes are one for each row of RFC 3629, section 4.
+fn characters(limit: usize, some: &str) -> String {
     largest(limit, usize::MAX, |n| {
-        metadata(&format!("\"{}\"", row.repeat(n)))
+        metadata(&format!("\"{}\"", some.repeat(n)))
     })
 }
 
@@ -153,7 +154,9 @@ fn alike(n: usize) -> String {
 
 /// All names of four letters that go to the first of the 4,096 chains.
 fn short_alike() -> Vec<String> {
-    let letters: Vec<u8> = (b'!'..=b'~').filter(|c| *c != b'"' && *c != b'\\').collect();
+    let letters: Vec<u8> = (b'!'..=b'~')
+        .filter(|c| *c != b'"' && *c != b'\\')
+        .collect();
     let number = |name: &[u8]| name.iter().fold(0, |h, b| (h * 59 + u32::from(*b)) % 4096);
     let mut found = Vec::new();
     for a in &letters {

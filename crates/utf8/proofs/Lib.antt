@@ -1,4 +1,4 @@
 -- What the proofs of several functions use.
-mod Bytes
+mod Arms
 mod Places
 mod Rules

@@ -130,22 +130,22 @@ unfolding written
 written-bytes x h = same-equal (encode (number x)) x (both-right (isCharacter (number x)) (same (encode (number x)) x) h)
 
 -- how many bytes a character has that begins with this byte
-unfoldable pub lead : ℕ → ℕ
+unfoldable lead : ℕ → ℕ
 lead a = cond (ltb a 128) 1 (cond (ltb a 224) 2 (cond (ltb a 240) 3 4))
 
-pub lead-one : (a : ℕ) → a < 128 → lead a ≡ 1
+lead-one : (a : ℕ) → a < 128 → lead a ≡ 1
 unfolding lead
 lead-one a h = rw (lt-ltb a 128 h)
 
-pub lead-two : (a : ℕ) → 128 ≤ a → a < 224 → lead a ≡ 2
+lead-two : (a : ℕ) → 128 ≤ a → a < 224 → lead a ≡ 2
 unfolding lead
 lead-two a l h = rw (le-ltb a 128 l, lt-ltb a 224 h)
 
-pub lead-three : (a : ℕ) → 224 ≤ a → a < 240 → lead a ≡ 3
+lead-three : (a : ℕ) → 224 ≤ a → a < 240 → lead a ≡ 3
 unfolding lead
 lead-three a l h = rw (le-ltb a 128 (omega arith), le-ltb a 224 l, lt-ltb a 240 h)
 
-pub lead-four : (a : ℕ) → 240 ≤ a → lead a ≡ 4
+lead-four : (a : ℕ) → 240 ≤ a → lead a ≡ 4
 unfolding lead
 lead-four a l = rw (le-ltb a 128 (omega arith), le-ltb a 224 (omega arith), le-ltb a 240 l)
 
@@ -156,7 +156,7 @@ length-form c h (three l k e) = rw e (sym (lead-three (224 + c / 4096) (omega ar
 length-form c h (four l e) = rw e (sym (lead-four (240 + c / 262144) (omega arith)))
 
 -- the first byte of a character tells how many it has
-pub written-length : (x : List ℕ) → written x ≡ true → length x ≡ lead (getD x 0 0)
+written-length : (x : List ℕ) → written x ≡ true → length x ≡ lead (getD x 0 0)
 written-length x h =
     subst (λ (y : List ℕ). length y ≡ lead (getD y 0 0)) (written-bytes x h)
     (length-form (number x) (top (number x) (written-character x h)) (form (number x)))
@@ -229,13 +229,6 @@ size-found {s} {m} n (some k b f) h l e = taken-lead s m (size-bound (some k b f
 
 pub size-is : (s : List ℕ) (n : ℕ) → n < 5 → n ≤ length s → written (take n s) ≡ true → size s ≡ n
 size-is s n h l e = size-found n (sized s) h l e
-
--- `size` finds none where the bytes that the first tells of are none, or are not all there
-pub size-not : (s : List ℕ) (n : ℕ) → lead (getD s 0 0) ≡ n → written (take n s) ≡ false → size s ≡ 0
-size-not s n q e = ⊎-elim (λ p. p) (λ p. absurd (never (p .1) (rw (p .0 ∙ q) e))) (size-lead (sized s))
-
-pub size-cut : (s : List ℕ) (n : ℕ) → lead (getD s 0 0) ≡ n → length s < n → size s ≡ 0
-size-cut s n q l = ⊎-elim (λ p. p) (λ p. absurd (omega (arith, p .0, size-within s))) (size-lead (sized s))
 
 -- a text goes on after its first character as the text that follows
 from-drop : (k : ℕ) (s : List ℕ) → wholeFrom k s ≡ wholeFrom zero (drop k s)

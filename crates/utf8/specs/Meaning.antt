@@ -48,13 +48,17 @@ length-encode c (two l k e) = rw e (omega arith)
 length-encode c (three l k e) = rw e (omega arith)
 length-encode c (four l e) = rw e (omega arith)
 
--- a text that begins with a character goes on after it
-starts : (c : ℕ) → isCharacter c ≡ true → (s : List ℕ) → wholeLength (encode c ++ s) ≡ length (encode c) + wholeLength s
-starts c h s =
-    let n = length (encode c) in
-    let k = length-encode c (form c) in
-    let e = size-is (encode c ++ s) n (k .1) (omega (arith, length-append (encode c) s)) (rw take-append-seam (written-encode c h)) in
-    whole-on (encode c ++ s) n (k .0) e ∙ ap (λ x. n + wholeLength x) (drop-append-seam (encode c) s)
+-- a text that begins with a character: its bytes are found, and the text goes on after it
+module _ (c : ℕ) (h : isCharacter c ≡ true) (s : List ℕ) where
+  pub size-starts : size (encode c ++ s) ≡ length (encode c)
+  size-starts =
+      size-is (encode c ++ s) (length (encode c)) (length-encode c (form c) .1) (omega (arith, length-append (encode c) s))
+      (rw take-append-seam (written-encode c h))
+
+  starts : wholeLength (encode c ++ s) ≡ length (encode c) + wholeLength s
+  starts =
+      whole-on (encode c ++ s) (length (encode c)) (length-encode c (form c) .0) size-starts
+      ∙ ap (λ x. length (encode c) + wholeLength x) (drop-append-seam (encode c) s)
 
 -- whole characters that a text begins with are counted
 counted : {x : List ℕ} → Whole x → (y : List ℕ) → length x ≤ wholeLength (x ++ y)

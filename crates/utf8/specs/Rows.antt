@@ -7,8 +7,8 @@ use lib.ListN.{length, getD}
 use lib.Dec.{leb}
 use Rattle.utf8.specs.Utf8.{isCharacter, encode}
 
-infix 80 _to_
 -- "%xC2-DF": the bytes from the first to the last
+infix 80 _to_
 pub data Range : Type 0 where
   _to_ : ℕ → ℕ → Range
 
@@ -23,14 +23,19 @@ rows =
     (0x00 to 0x7F ∷ []) ∷
     -- UTF8-2 = %xC2-DF UTF8-tail
     (0xC2 to 0xDF ∷ UTF8-tail ∷ []) ∷
-    -- UTF8-3 = %xE0 %xA0-BF UTF8-tail / %xE1-EC 2( UTF8-tail ) / %xED %x80-9F UTF8-tail / %xEE-EF 2( UTF8-tail )
+    -- UTF8-3 = %xE0 %xA0-BF UTF8-tail /
     (0xE0 to 0xE0 ∷ 0xA0 to 0xBF ∷ UTF8-tail ∷ []) ∷
+    --          %xE1-EC 2( UTF8-tail ) /
     (0xE1 to 0xEC ∷ UTF8-tail ∷ UTF8-tail ∷ []) ∷
+    --          %xED %x80-9F UTF8-tail /
     (0xED to 0xED ∷ 0x80 to 0x9F ∷ UTF8-tail ∷ []) ∷
+    --          %xEE-EF 2( UTF8-tail )
     (0xEE to 0xEF ∷ UTF8-tail ∷ UTF8-tail ∷ []) ∷
-    -- UTF8-4 = %xF0 %x90-BF 2( UTF8-tail ) / %xF1-F3 3( UTF8-tail ) / %xF4 %x80-8F 2( UTF8-tail )
+    -- UTF8-4 = %xF0 %x90-BF 2( UTF8-tail ) /
     (0xF0 to 0xF0 ∷ 0x90 to 0xBF ∷ UTF8-tail ∷ UTF8-tail ∷ []) ∷
+    --          %xF1-F3 3( UTF8-tail ) /
     (0xF1 to 0xF3 ∷ UTF8-tail ∷ UTF8-tail ∷ UTF8-tail ∷ []) ∷
+    --          %xF4 %x80-8F 2( UTF8-tail )
     (0xF4 to 0xF4 ∷ 0x80 to 0x8F ∷ UTF8-tail ∷ UTF8-tail ∷ []) ∷
     []
 

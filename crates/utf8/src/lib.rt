@@ -1,110 +1,99 @@
 // Whole characters of UTF-8 (RFC 3629): how many bytes of a text they make up.
 ghost use Prim.Native.Nat.{_+_, _≤_, _<_};
-ghost use mathlib.Core.Bool.{true};
+ghost use mathlib.Core.Bool.{true, cond};
 ghost use mathlib.Core.List.{[], _∷_};
 ghost use mathlib.Core.Path.{_≡_};
 ghost use lib.ListN.{length, drop};
-ghost use Rattle.utf8.specs.Utf8.{written, size, wholeLength};
-ghost use Rattle.utf8.specs.Says.{isBetween, Step, Under};
+ghost use Rattle.utf8.specs.Utf8.{size, wholeLength};
+ghost use Rattle.utf8.specs.Rows.{UTF8-tail, matches};
+ghost use Rattle.utf8.specs.Rows.Range.{_to_};
+ghost use Rattle.utf8.specs.Says.{Passed, Under};
 
-// Is the byte one of those from `low` to `high`?
-fn between(b: u8, low: u8, high: u8) -> bool
-    ensures { λ r. ⌜ r ≡ isBetween low high b ⌝ }
+// Has the text a byte from `low` to `high` at `at`?
+fn has(text: &[u8], at: usize, low: u8, high: u8) -> bool
+    ensures { λ r. ⌜ r ≡ matches (low to high ∷ []) (drop at (now (text .entry))) ⌝ }
 {
-    if b < low {
-        return false;
+    if at >= text.len() {
+        return false; // The text ends here.
     }
-    b <= high
+    let b = text[at];
+    low <= b && b <= high
 }
 
-// Are these two bytes, the first from 80 to DF, a character?
-fn two(a: u8, b: u8) -> bool
-    requires { ⌜ 128 ≤ a ⌝ }
-    requires { ⌜ a < 224 ⌝ }
-    ensures { λ r. ⌜ r ≡ written (a ∷ b ∷ []) ⌝ }
+// UTF8-tail = %x80-BF
+fn tail(text: &[u8], at: usize) -> bool
+    ensures { λ r. ⌜ r ≡ matches (UTF8-tail ∷ []) (drop at (now (text .entry))) ⌝ }
 {
-    if a < 0xC2 {
-        return false;
-    }
-    between(b, 0x80, 0xBF)
+    has(text, at, 0x80, 0xBF)
 }
 
-// Are these three bytes, the first from E0 to EF, a character?
-fn three(a: u8, b: u8, c: u8) -> bool
-    requires { ⌜ 224 ≤ a ⌝ }
-    requires { ⌜ a < 240 ⌝ }
-    ensures { λ r. ⌜ r ≡ written (a ∷ b ∷ c ∷ []) ⌝ }
+// 2( UTF8-tail )
+fn two_tails(text: &[u8], at: usize) -> bool
+    ensures { λ r. ⌜ r ≡ matches (UTF8-tail ∷ UTF8-tail ∷ []) (drop at (now (text .entry))) ⌝ }
 {
-    if !between(c, 0x80, 0xBF) {
-        return false;
-    }
-    if a == 0xE0 {
-        return between(b, 0xA0, 0xBF);
-    }
-    if a == 0xED {
-        return between(b, 0x80, 0x9F);
-    }
-    between(b, 0x80, 0xBF)
+    tail(text, at) && tail(text, at + 1)
 }
 
-// Are these four bytes, the first from F0 to FF, a character?
-fn four(a: u8, b: u8, c: u8, d: u8) -> bool
-    requires { ⌜ 240 ≤ a ⌝ }
-    ensures { λ r. ⌜ r ≡ written (a ∷ b ∷ c ∷ d ∷ []) ⌝ }
+// 3( UTF8-tail )
+fn three_tails(text: &[u8], at: usize) -> bool
+    ensures { λ r. ⌜ r ≡ matches (UTF8-tail ∷ UTF8-tail ∷ UTF8-tail ∷ []) (drop at (now (text .entry))) ⌝ }
 {
-    if a > 0xF4 {
-        return false;
-    }
-    if !between(c, 0x80, 0xBF) {
-        return false;
-    }
-    if !between(d, 0x80, 0xBF) {
-        return false;
-    }
-    if a == 0xF0 {
-        return between(b, 0x90, 0xBF);
-    }
-    if a == 0xF4 {
-        return between(b, 0x80, 0x8F);
-    }
-    between(b, 0x80, 0xBF)
+    tail(text, at) && two_tails(text, at + 1)
 }
 
-// How many bytes the character at `at` has; 0 if none stands there.
+// The bytes of a row that count: all n if the rest of the row matches, else none.
+fn counted(n: usize, rest: bool) -> usize
+    ensures { λ r. ⌜ r ≡ cond rest n 0 ⌝ }
+{
+    if rest {
+        return n;
+    }
+    0
+}
+
+// How many bytes the character at `at` has; 0 if none stands there. The cases are the rows of RFC 3629, section 4, in its order.
 fn character(text: &[u8], at: usize) -> usize
     requires { ⌜ at < length (now text) ⌝ }
     ensures { λ r. ⌜ r ≡ size (drop at (now (text .entry))) ⌝ }
 {
-    let a = text[at];
-    if a < 0x80 {
-        return 1;
+    match text[at] {
+        // UTF8-1 = %x00-7F
+        0x00..=0x7F => 1,
+        // UTF8-2 = %xC2-DF UTF8-tail
+        0xC2..=0xDF => counted(2, tail(text, at + 1)),
+        // UTF8-3 = %xE0 %xA0-BF UTF8-tail /
+        0xE0 => counted(3, has(text, at + 1, 0xA0, 0xBF) && tail(text, at + 2)),
+        //          %xE1-EC 2( UTF8-tail ) /
+        0xE1..=0xEC => counted(3, two_tails(text, at + 1)),
+        //          %xED %x80-9F UTF8-tail /
+        0xED => counted(3, has(text, at + 1, 0x80, 0x9F) && tail(text, at + 2)),
+        //          %xEE-EF 2( UTF8-tail )
+        0xEE..=0xEF => counted(3, two_tails(text, at + 1)),
+        // UTF8-4 = %xF0 %x90-BF 2( UTF8-tail ) /
+        0xF0 => counted(4, has(text, at + 1, 0x90, 0xBF) && two_tails(text, at + 2)),
+        //          %xF1-F3 3( UTF8-tail ) /
+        0xF1..=0xF3 => counted(4, three_tails(text, at + 1)),
+        //          %xF4 %x80-8F 2( UTF8-tail )
+        0xF4 => counted(4, has(text, at + 1, 0x80, 0x8F) && two_tails(text, at + 2)),
+        _ => 0,
     }
-    let left = text.len() - at;
-    if a < 0xE0 {
-        if left < 2 {
-            return 0; // The text ends within two bytes.
+}
+
+// Past the characters from `at` on, to the first that begins at `end` or later, or to where none stands.
+fn characters(text: &[u8], at: usize, end: usize) -> usize
+    requires { ⌜ end ≤ length (now text) ⌝ }
+    requires { ⌜ at ≤ length (now text) ⌝ }
+    ensures { λ r. ⌜ Passed (now (text .entry)) at end r ⌝ }
+{
+    let mut i = at;
+    while i < end {
+        let n = character(text, i);
+        if n == 0 {
+            return i;
         }
-        if two(a, text[at + 1]) {
-            return 2;
-        }
-        return 0;
+        i += n;
     }
-    if a < 0xF0 {
-        if left < 3 {
-            return 0; // The text ends within three bytes.
-        }
-        if three(a, text[at + 1], text[at + 2]) {
-            return 3;
-        }
-        return 0;
-    }
-    if left < 4 {
-        return 0; // The text ends within four bytes.
-    }
-    if four(a, text[at + 1], text[at + 2], text[at + 3]) {
-        return 4;
-    }
-    0
+    i
 }
 
 // A byte that is at least either of two: their bits together.
@@ -128,7 +117,7 @@ fn gathered(text: &[u8], at: usize) -> u8
     all
 }
 
-// Are the next 64 bytes below 80, and so a character each?
+// Are the next 64 bytes below 0x80, and so a character each?
 fn all_ascii(text: &[u8], at: usize) -> bool
     requires { ⌜ at + 64 ≤ length (now text) ⌝ }
     ensures { λ r. ⌜ (r ≡ true → wholeLength (drop at (now (text .entry))) ≡ 64 + wholeLength (drop (at + 64) (now (text .entry)))) ⌝ }
@@ -136,17 +125,15 @@ fn all_ascii(text: &[u8], at: usize) -> bool
     gathered(text, at) < 0x80
 }
 
-// How far the text goes on at `at` in one step: 64 bytes below 80, or one character; 0 if none stands there.
-fn step(text: &[u8], at: usize) -> usize
-    requires { ⌜ at < length (now text) ⌝ }
-    ensures { λ r. ⌜ Step (now (text .entry)) at r ⌝ }
+// Past the next 64 bytes: at once if each is below 0x80, else character by character.
+fn block(text: &[u8], at: usize) -> usize
+    requires { ⌜ at + 64 ≤ length (now text) ⌝ }
+    ensures { λ r. ⌜ Passed (now (text .entry)) at (at + 64) r ⌝ }
 {
-    if text.len() - at >= 64 {
-        if all_ascii(text, at) {
-            return 64;
-        }
+    if all_ascii(text, at) {
+        return at + 64;
     }
-    character(text, at)
+    characters(text, at, at + 64)
 }
 
 // How many bytes of the text are whole characters, up to the first that is not.
@@ -154,12 +141,12 @@ pub fn whole(text: &[u8]) -> usize
     ensures { λ r. ⌜ r ≡ wholeLength (now (text .entry)) ⌝ }
 {
     let mut at = 0;
-    while at < text.len() {
-        let n = step(text, at);
-        if n == 0 {
-            return at;
+    while text.len() - at >= 64 {
+        let next = block(text, at);
+        if next < at + 64 {
+            return next;
         }
-        at += n;
+        at = next;
     }
-    at
+    characters(text, at, text.len())
 }
