@@ -49,7 +49,7 @@ unfolding matches isIn
 matching [] k text = []
 matching (row ∷ rs) k text = cond (matches row text) (k ∷ matching rs (suc k) text) (matching rs (suc k) text)
 
--- the euro sign and more
+-- the euro sign, and a letter after it
 euro-row : matching rows 0 (0xE2 ∷ 0x82 ∷ 0xAC ∷ 0x41 ∷ []) ≡ 3 ∷ []
 unfolding rows matching
 euro-row = refl

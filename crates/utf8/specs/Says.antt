@@ -9,7 +9,7 @@ use Rattle.utf8.specs.Utf8.{wholeLength}
 pub record Under (text : List ℕ) (at n m : ℕ) : Type 0 where
   pub most : (k : ℕ) → k < n → getD text (at + k) 0 ≤ m
 
--- from `at` to `next` stand whole characters, and where `next` is before `end` none stands there
+-- the whole characters from `at` on end where those from `next` on end, and where `next` is before `end` none stands there
 pub record Passed (text : List ℕ) (at end next : ℕ) : Type 0 where
   pub inside : next ≤ length text
   pub on : at + wholeLength (drop at text) ≡ next + wholeLength (drop next text)
