@@ -7,7 +7,8 @@ use lib.ListN.{length, getD}
 use mir.Syntax.{w64}
 use mir.Val.{Fits}
 use Rattle.json.specs.Laws.{words}
-use Rattle.everywhere.specs.Parts.{Part, Stands, of-value, of-name, AnyPart}
+use Rattle.everywhere.specs.Parts.{Part}
+use Rattle.everywhere.specs.Says.{Stands, of-value, of-name, AnyPart}
 
 module _ {x t : List ℕ} {i : ℕ} where
   part-room : {d : Part} → Stands x t i d → i + 2 < length t

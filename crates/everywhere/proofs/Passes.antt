@@ -17,25 +17,8 @@ use Rattle.nodes.specs.Faults.{fault, least}
 use Rattle.everywhere.specs.Everywhere.{strings, unpairedIn, rule5, stringsIn, stringsOf}
 use Rattle.nodes.specs.Says.{Root, Gives}
 use Rattle.nodes.specs.Laws.{least-++}
-use Rattle.everywhere.specs.Parts.{Part, value, name, Stands, of-value, of-name, own5, AnyPart, PartGives}
-
--- the parts of a value, of elements and of members, in the text's order
-unfoldable mutual
-  pub parts : Json → List Part
-  parts (tree.null p e) = value (tree.null p e) ∷ []
-  parts (tree.bool p e b) = value (tree.bool p e b) ∷ []
-  parts (tree.num p e raw) = value (tree.num p e raw) ∷ []
-  parts (tree.str p e raw) = value (tree.str p e raw) ∷ []
-  parts (tree.arr p e vs) = value (tree.arr p e vs) ∷ partsIn vs
-  parts (tree.obj p e ms) = value (tree.obj p e ms) ∷ partsOf ms
-
-  pub partsIn : Items → List Part
-  partsIn tree.noItems = []
-  partsIn (v ▸ vs) = parts v ++ partsIn vs
-
-  pub partsOf : Members → List Part
-  partsOf tree.empty = []
-  partsOf (member k v ms) = name k ∷ (parts v ++ partsOf ms)
+use Rattle.everywhere.specs.Parts.{Part, value, name, parts, partsIn, partsOf}
+use Rattle.everywhere.specs.Says.{Stands, of-value, of-name, own5, AnyPart, PartGives}
 
 pub flat-++ : (f : Part → List ℕ) (ds es : List Part) → flatMap f (ds ++ es) ≡ flatMap f ds ++ flatMap f es
 unfolding flatMap
@@ -92,7 +75,7 @@ mutual
   members-size (member k v ms) = omega (arith, length-append (parts v) (partsOf ms), parts-size v, members-size ms)
 
 -- the words from i on are those of the parts ds
-data Row (x t : List ℕ) : ℕ → List Part → Type 0 where
+pub data Row (x t : List ℕ) : ℕ → List Part → Type 0 where
   none : {i : ℕ} → Row x t i []
   some : {i : ℕ} {d : Part} {ds : List Part} → Stands x t i d → Row x t (i + 3) ds → Row x t i (d ∷ ds)
 
@@ -141,64 +124,66 @@ pub rule5-clear : {x t : List ℕ} (b : ℕ) {r : Bool} → r ≡ hasByte 92 x �
 unfolding least
 rule5-clear b {r} q n = record { is = λ v s. rw (rule5-parts v, plain-row (sym q ∙ not-true r n) (row s)) }
 
+-- ---- a pass over a table
+
+-- where a pass has come to the node k: the words from k up to n are those of the parts that are left, and F holds of these
+pub record Rest (F : List Part → Type 0) (x t : List ℕ) (n k : ℕ) : Type 0 where
+  pub left : List Part
+  pub stand : Row x t k left
+  pub ends : k + 3 * length left ≡ n
+  pub holds : F left
+
+-- in a turn: the part at k, and the others
+pub record Turn (F : List Part → Type 0) (x t : List ℕ) (n k : ℕ) : Type 0 where
+  pub part : Part
+  pub others : List Part
+  pub stands : Stands x t k part
+  pub then : Row x t (k + 3) others
+  pub ends : (k + 3) + 3 * length others ≡ n
+  pub holds : F (part ∷ others)
+
+-- it begins with all parts of a tree, which has the n words of any that stands there, of any text
+pub rest-all : (F : List Part → Type 0) {x y t : List ℕ} {v w : Json} {n : ℕ} → Sub y t 0 v → Sub x t 0 w → size v ≡ n → F (parts w) → Rest F x t n 0
+rest-all F {w = w} s u e h = record { left = parts w; stand = row u; ends = omega (arith, parts-size w, words s .next, words u .next); holds = h }
+
+module _ {F : List Part → Type 0} {x t : List ℕ} {n k : ℕ} (r : Rest F x t n k) where
+  pub turn : k < n → Turn F x t n k
+  turn h = go (r .stand) (r .ends) (r .holds)
+    where
+      go : {ds : List Part} → Row x t k ds → k + 3 * length ds ≡ n → F ds → Turn F x t n k
+      go none e p = absurd (omega arith)
+      go (some {d = d} {ds = ds} s w) e p = record { part = d; others = ds; stands = s; then = w; ends = omega arith; holds = p }
+
+  pub finished : n ≤ k → F []
+  finished h = go (r .left) (r .ends) (r .holds)
+    where
+      go : (ds : List Part) → k + 3 * length ds ≡ n → F ds → F []
+      go [] e p = p
+      go (d ∷ ds) e p = absurd (omega arith)
+
+-- ---- a pass that looks for faults
+
 -- something is claimed of every least so far
 abbrev pub Always : ℕ → Type 0
 Always b = Unit
 
--- what a pass knows where it has come to the node k: the words from k up to n are those of the parts that are left,
--- whose faults with b have the least `all`, if P holds of b
-record Left (P : ℕ → Type 0) (rule : ℕ) (own : Part → List ℕ) (x t : List ℕ) (n k b all : ℕ) : Type 0 where
-  left : List Part
-  stand : Row x t k left
-  ends : k + 3 * length left ≡ n
-  holds : P b → least b (map (fault rule) (flatMap own left)) ≡ all
+-- the faults of the parts ds with b have the least `all`, if P holds of b
+abbrev Least : (P : ℕ → Type 0) (rule : ℕ) (own : Part → List ℕ) (b all : ℕ) → List Part → Type 0
+Least P rule own b all ds = P b → least b (map (fault rule) (flatMap own ds)) ≡ all
 
--- the same of every value that stands at the node 0, where the pass began with b₀
+-- so it is, with what is left, for every value that stands at the node 0, where the pass began with b₀
 pub record Pass (P : ℕ → Type 0) (rule : ℕ) (own : Part → List ℕ) (x t : List ℕ) (n b₀ k b : ℕ) : Type 0 where
   pub root : Root x t n
-  left : (v : Json) → Sub x t 0 v → Left P rule own x t n k b (least b₀ (map (fault rule) (flatMap own (parts v))))
+  left : (v : Json) → Sub x t 0 v → Rest (Least P rule own b (least b₀ (map (fault rule) (flatMap own (parts v))))) x t n k
 
--- in a turn: the part at k, and the others
-record Turn (P : ℕ → Type 0) (rule : ℕ) (own : Part → List ℕ) (x t : List ℕ) (n k b all : ℕ) : Type 0 where
-  part : Part
-  others : List Part
-  stands : Stands x t k part
-  then : Row x t (k + 3) others
-  ends : (k + 3) + 3 * length others ≡ n
-  holds : P b → least (least b (map (fault rule) (own part))) (map (fault rule) (flatMap own others)) ≡ all
-
-turn : {P : ℕ → Type 0} {rule : ℕ} {own : Part → List ℕ} {x t : List ℕ} {n k b all : ℕ} → Left P rule own x t n k b all → k < n → Turn P rule own x t n k b all
+-- the first part's faults, then those of the others
+one-more : (rule : ℕ) (own : Part → List ℕ) (b : ℕ) (d : Part) (ds : List Part)
+    → least b (map (fault rule) (flatMap own (d ∷ ds))) ≡ least (least b (map (fault rule) (own d))) (map (fault rule) (flatMap own ds))
 unfolding flatMap
-turn {P} {rule} {own} {x} {t} {n} {k} {b} {all} l h = go (l .stand) (l .ends) (l .holds)
-  where
-    go : {ds : List Part} → Row x t k ds → k + 3 * length ds ≡ n → (P b → least b (map (fault rule) (flatMap own ds)) ≡ all) → Turn P rule own x t n k b all
-    go none e p = absurd (omega arith)
-    go (some {d = d} {ds = ds} s r) e p =
-        record {
-          part = d;
-          others = ds;
-          stands = s;
-          then = r;
-          ends = omega arith;
-          holds = λ z.
-              sym (least-++ b (map (fault rule) (own d)) (map (fault rule) (flatMap own ds)))
-              ∙ (ap (least b) (sym (map-append (fault rule) (own d) (flatMap own ds))) ∙ p z);
-        }
-
-finished : {P : ℕ → Type 0} {rule : ℕ} {own : Part → List ℕ} {x t : List ℕ} {n k b all : ℕ} → Left P rule own x t n k b all → n ≤ k → P b → b ≡ all
-unfolding flatMap least
-finished {rule = rule} {own} {x} {t} {n} {k} {b} {all} l h z = go (l .left) (l .ends) (l .holds z)
-  where
-    go : (ds : List Part) → k + 3 * length ds ≡ n → least b (map (fault rule) (flatMap own ds)) ≡ all → b ≡ all
-    go [] e p = p
-    go (d ∷ ds) e p = absurd (omega arith)
+one-more rule own b d ds = ap (least b) (map-append (fault rule) (own d) (flatMap own ds)) ∙ least-++ b (map (fault rule) (own d)) (map (fault rule) (flatMap own ds))
 
 pub pass-begin : (P : ℕ → Type 0) (rule : ℕ) (own : Part → List ℕ) {x t : List ℕ} {n : ℕ} (b : ℕ) → Root x t n → Pass P rule own x t n b 0 b
-pass-begin P rule own b d =
-    record {
-      root = d;
-      left = λ v s. record { left = parts v; stand = row s; ends = omega (arith, parts-size v, words s .next, words (d .stands) .next, d .ends); holds = λ z. refl };
-    }
+pass-begin P rule own b d = record { root = d; left = λ v s. rest-all (Least P rule own b _) (d .stands) s (d .ends) (λ z. refl) }
 
 module _ {P : ℕ → Type 0} {rule : ℕ} {own : Part → List ℕ} {x t : List ℕ} {n b₀ k b : ℕ} (c : Pass P rule own x t n b₀ k b) where
   pub pass-part : k < n → AnyPart x t k
@@ -210,10 +195,16 @@ module _ {P : ℕ → Type 0} {rule : ℕ} {own : Part → List ℕ} {x t : List
         root = c .root;
         left = λ v s.
             let u = turn (c .left v s) l in
-            record { left = u .others; stand = u .then; ends = u .ends; holds = λ z. let o = g (u .part) (u .stands) z in rw (o .1) (u .holds (o .0)) };
+            record {
+              left = u .others;
+              stand = u .then;
+              ends = u .ends;
+              holds = λ z. let o = g (u .part) (u .stands) z in rw (o .1) (sym (one-more rule own b (u .part) (u .others)) ∙ u .holds (o .0));
+            };
       }
 
   pub pass-done : n ≤ k → P b → (v : Json) → Sub x t 0 v → b ≡ least b₀ (map (fault rule) (flatMap own (parts v)))
+  unfolding flatMap least
   pass-done h z v s = finished (c .left v s) h z
 
 module _ {rule : ℕ} {own : Part → List ℕ} {x t : List ℕ} {n b₀ k b r : ℕ} where

@@ -24,7 +24,8 @@ use Rattle.nodes.specs.Faults.{fault, least}
 use Rattle.nodes.specs.Laws.{StringAt, quoted-at, string-at, rawOf, kinds, place-at}
 use Rattle.nodes.specs.Reads.{string-fits}
 use Rattle.everywhere.proofs.Any.{any-first, any-second, any-third, any-inside}
-use Rattle.everywhere.specs.Parts.{Part, value, Stands, of-value, of-name, own5, AnyPart, PartGives}
+use Rattle.everywhere.specs.Parts.{Part, value}
+use Rattle.everywhere.specs.Says.{Stands, of-value, of-name, own5, AnyPart, PartGives}
 
 -- no string has no unpaired surrogate
 no-string : (v : Json) → isStringValue v ≡ false → own5 (value v) ≡ []

@@ -1,11 +1,13 @@
 -- Sample readings (docs/TRACE.md) that rules 5 and 6 of docs/RULES.md decide, by computation: the places in the tree of the text.
+-- Then the parts of a tree.
 use Prim.Native.Nat.{ℕ}
 use mathlib.Core.Path.{_≡_, refl}
-use mathlib.Core.List.{List, [], _∷_}
+use mathlib.Core.List.{List, [], _∷_, map}
 use Rattle.utf8.specs.Ascii.{ascii, isDigit}
 use Rattle.json.specs.Tree.{Json, _◂_, with}
 use Rattle.json.specs.Machine.{Outcome, reads, bad, tooDeep, read, step, wantStep, gotStep, nextStep, nameStep, mantStep, noughtStep, isBlank, isHex, isEscape}
 use Rattle.everywhere.specs.Everywhere.{rule5, rule6}
+use Rattle.everywhere.specs.Parts.{partPlace, partEnd, parts}
 
 -- the places of a rule in the tree of a text
 unfoldable places : (Json → List ℕ) → List ℕ → List ℕ
@@ -41,3 +43,12 @@ twice-decoded = refl
 in-any-object : places rule6 (ascii "[{\"a\":{\"b\":1,\"b\":2},\"a\":3,\"a\":4}]") ≡ 20 ∷ 26 ∷ 13 ∷ []
 unfolding places
 in-any-object = refl
+
+-- the parts of {"a" : [10, null ] } are the object, the name, the array, the number and the word, in this order; a blank after one is no part of it
+part-places : places (λ v. map partPlace (parts v)) (ascii "{\"a\" : [10, null ] }") ≡ 0 ∷ 1 ∷ 7 ∷ 8 ∷ 12 ∷ []
+unfolding places parts partPlace
+part-places = refl
+
+part-ends : places (λ v. map partEnd (parts v)) (ascii "{\"a\" : [10, null ] }") ≡ 20 ∷ 4 ∷ 18 ∷ 10 ∷ 16 ∷ []
+unfolding places parts partEnd
+part-ends = refl

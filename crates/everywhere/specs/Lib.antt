@@ -2,5 +2,6 @@
 pub mod Everywhere
 pub mod Examples
 pub mod Parts
+pub mod Says
 pub mod Chains
 pub mod Laws

@@ -6,7 +6,7 @@ ghost use mathlib.Core.Path.{_≡_};
 ghost use Rattle.nodes.specs.Faults.{fault, least};
 ghost use Rattle.nodes.specs.Says.{Root, Gives};
 ghost use Rattle.everywhere.specs.Everywhere.{rule5};
-ghost use Rattle.everywhere.specs.Parts.{AnyPart, PartGives, own5};
+ghost use Rattle.everywhere.specs.Says.{AnyPart, PartGives, own5};
 ghost use Rattle.everywhere.specs.Chains.{hashFrom, chainOf};
 ghost use Rattle.strings.specs.Spans.{Span, decodeAt, ahead};
 

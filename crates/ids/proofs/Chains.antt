@@ -14,7 +14,7 @@ use Rattle.strings.specs.Spans.{decodeAt}
 use Rattle.nodes.specs.Access.{Member, nameOf}
 use Rattle.everywhere.specs.Chains.{chainOf}
 use Rattle.everywhere.specs.Laws.{other-text}
-use Rattle.everywhere.specs.Parts.{textAt}
+use Rattle.everywhere.specs.Says.{textAt}
 use Rattle.model.specs.Model.{objectNumber}
 use Rattle.ids.specs.Says.{TextNode, Offsets, Objects, namesOf, Numbers, headFrom, ChainsFrom, Chains, Fills, Puts}
 use Rattle.ids.proofs.Rules.{ids, name-text, nobody, object-text}

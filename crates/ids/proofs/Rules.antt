@@ -17,7 +17,7 @@ use Rattle.json.specs.Table.{Sub}
 use Rattle.json.specs.Laws.{words}
 use Rattle.nodes.specs.Access.{isStringValue, textOf, nameOf, Member}
 use Rattle.nodes.specs.Laws.{rawOf, string-at, text-at, quoted-at}
-use Rattle.everywhere.specs.Parts.{textAt}
+use Rattle.everywhere.specs.Says.{textAt}
 use Rattle.nodes.specs.Says.{Node, Gives}
 use Rattle.fields.specs.Says.{MemberAt}
 use Rattle.ids.specs.Says.{TextNode, Objects, MemberNode}

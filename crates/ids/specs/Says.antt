@@ -8,7 +8,7 @@ use lib.Dec.{eqb}
 use Rattle.nodes.specs.Access.{Member, nameOf}
 use Rattle.everywhere.specs.Chains.{chainOf}
 use Rattle.nodes.specs.Laws.{StringAt}
-use Rattle.everywhere.specs.Parts.{textAt}
+use Rattle.everywhere.specs.Says.{textAt}
 use Rattle.fields.specs.Says.{MemberAt}
 use Rattle.model.specs.Model.{objectNumber}
 

@@ -4,7 +4,7 @@ ghost use mathlib.Core.Path.{_≡_};
 ghost use lib.ListN.{length, getD};
 ghost use Rattle.utf8.specs.Utf8 as utf8;
 ghost use Rattle.everywhere.specs.Chains.{chainOf};
-ghost use Rattle.everywhere.specs.Parts.{textAt};
+ghost use Rattle.everywhere.specs.Says.{textAt};
 ghost use Rattle.ids.specs.Says.{TextNode, Objects, Puts, Chains, Fills, Numbers};
 
 // Do the strings or names at two nodes stand for the same text?

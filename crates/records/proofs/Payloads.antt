@@ -8,7 +8,7 @@ use Rattle.utf8.specs.Bytes.{le}
 use Rattle.strings.specs.Spans.{decodeAt}
 use Rattle.nodes.specs.Access.{elements, nameOf, find, Member}
 use Rattle.nodes.specs.Says.{Gives}
-use Rattle.everywhere.specs.Parts.{textAt}
+use Rattle.everywhere.specs.Says.{textAt}
 use Rattle.words.specs.Words.{objectWords, codeOf}
 use Rattle.fields.specs.Fields.{typeText}
 use Rattle.ids.specs.Says.{MemberNode}

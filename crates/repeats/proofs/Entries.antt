@@ -18,7 +18,7 @@ use Rattle.trie.specs.Laws.{reaches-unique}
 use Rattle.nodes.specs.Faults.{fault, least}
 use Rattle.nodes.specs.Reads.{string-first, string-second, string-some, string-fits, string-span, string-low}
 use Rattle.everywhere.specs.Everywhere.{among}
-use Rattle.everywhere.specs.Parts.{textAt}
+use Rattle.everywhere.specs.Says.{textAt}
 use Rattle.repeats.specs.Entries.{NameText, ValueTells, Entry, Named, Entries, EntryFault, EntryAt, EntryTold, EntryGives}
 
 -- no names yet

@@ -18,7 +18,7 @@ use Rattle.strings.specs.Laws.{apart-differ}
 use Rattle.nodes.specs.Faults.{fault, least}
 use Rattle.everywhere.specs.Everywhere.{among}
 use Rattle.nodes.specs.Laws.{StringAt}
-use Rattle.everywhere.specs.Parts.{textAt}
+use Rattle.everywhere.specs.Says.{textAt}
 use Rattle.everywhere.specs.Laws.{other-text}
 use Rattle.everywhere.specs.Chains.{chainOf}
 use Rattle.repeats.specs.Chains.{kept, Link, Chained, end, link, Chains, ChainNode, InChain, Searched, ChainAt, ChainGives}

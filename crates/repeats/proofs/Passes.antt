@@ -13,8 +13,9 @@ use Rattle.nodes.specs.Faults.{fault, least}
 use Rattle.nodes.specs.Says.{Root, Gives}
 use Rattle.nodes.specs.Laws.{least-le, fieldsOf, fresh-length}
 use Rattle.everywhere.specs.Everywhere.{repeated, rule6, rule6In, rule6Of}
-use Rattle.everywhere.specs.Parts.{Part, AnyPart}
-use Rattle.everywhere.proofs.Passes.{parts, partsIn, partsOf, flat-++, Pass, pass-begin, pass-part, pass-done, again}
+use Rattle.everywhere.specs.Parts.{Part, parts, partsIn, partsOf}
+use Rattle.everywhere.specs.Says.{AnyPart}
+use Rattle.everywhere.proofs.Passes.{flat-++, Pass, pass-begin, pass-part, pass-done, again}
 use Rattle.everywhere.proofs.Any.{any-onward}
 use Rattle.repeats.specs.Names.{own6, Sure, PartTells, TreeTells}
 use Rattle.repeats.specs.Entries.{TrieRoom}

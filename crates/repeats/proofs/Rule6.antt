@@ -22,7 +22,8 @@ use Rattle.nodes.specs.Access.{isObjectValue}
 use Rattle.nodes.specs.Faults.{fault, least}
 use Rattle.everywhere.specs.Everywhere.{among, repeated}
 use Rattle.nodes.specs.Laws.{quoted-at, kinds, fieldsOf, object-begin, no-fields, least-++, fresh-zero, fresh-length}
-use Rattle.everywhere.specs.Parts.{Part, value, Stands, of-value, of-name, AnyPart, PartGives, textAt}
+use Rattle.everywhere.specs.Parts.{Part, value}
+use Rattle.everywhere.specs.Says.{Stands, of-value, of-name, AnyPart, PartGives, textAt}
 use Rattle.repeats.specs.Names.{own6, Sure, PartTells, earlier, NameNode, Repeats, RepeatGives}
 use Rattle.repeats.specs.Chains.{Chains, ChainAt, ChainGives, LongObject}
 use Rattle.repeats.specs.Entries.{TrieRoom, Entries, EntryAt, EntryGives, TrieObject, FreshObject}

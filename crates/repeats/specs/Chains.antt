@@ -8,7 +8,7 @@ use lib.Dec.{eqb}
 use Rattle.nodes.specs.Faults.{fault, least}
 use Rattle.nodes.specs.Laws.{StringAt}
 use Rattle.everywhere.specs.Everywhere.{among}
-use Rattle.everywhere.specs.Parts.{AnyPart, textAt}
+use Rattle.everywhere.specs.Says.{AnyPart, textAt}
 use Rattle.everywhere.specs.Chains.{chainOf}
 use Rattle.repeats.specs.declared.Search.{Search}
 use Rattle.repeats.specs.declared.Search.the-variants.{Ended}

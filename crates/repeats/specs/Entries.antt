@@ -9,7 +9,7 @@ use Rattle.trie.specs.Trie.{valueOf, Reaches}
 use Rattle.nodes.specs.Faults.{fault, least}
 use Rattle.nodes.specs.Laws.{StringAt}
 use Rattle.everywhere.specs.Everywhere.{among}
-use Rattle.everywhere.specs.Parts.{AnyPart, textAt}
+use Rattle.everywhere.specs.Says.{AnyPart, textAt}
 
 -- an array for a trie: it has room for the root, and for at most 65,536 entries
 pub record TrieRoom (q : List ℕ) : Type 0 where

@@ -12,7 +12,8 @@ use Rattle.nodes.specs.Faults.{fault, least}
 use Rattle.nodes.specs.Says.{Gives}
 use Rattle.nodes.specs.Laws.{StringAt, fieldsOf}
 use Rattle.everywhere.specs.Everywhere.{among, repeated, rule6}
-use Rattle.everywhere.specs.Parts.{Part, value, name, PartGives, textAt}
+use Rattle.everywhere.specs.Parts.{Part, value, name}
+use Rattle.everywhere.specs.Says.{PartGives, textAt}
 
 -- the places at which a part breaks rule 6 itself, without what it holds
 unfoldable pub own6 : Part → List ℕ

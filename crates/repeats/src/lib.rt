@@ -9,7 +9,7 @@ ghost use Rattle.trie.specs.Trie.{Walks};
 ghost use Rattle.nodes.specs.Faults.{fault, least};
 ghost use Rattle.nodes.specs.Says.{Root, Gives};
 ghost use Rattle.everywhere.specs.Everywhere.{rule6};
-ghost use Rattle.everywhere.specs.Parts.{AnyPart, textAt};
+ghost use Rattle.everywhere.specs.Says.{AnyPart, textAt};
 ghost use Rattle.repeats.specs.Names.{PartTells, TreeTells, own6, NameNode, Repeats, RepeatGives};
 ghost use Rattle.repeats.specs.Chains.{ChainNode, Searched, ChainAt, ChainGives, LongObject};
 ghost use Rattle.repeats.specs.Entries.{TrieRoom, NameText, ValueTells, EntryFault, EntryAt, EntryGives, TrieObject, FreshObject};

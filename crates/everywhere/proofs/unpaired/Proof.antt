@@ -1,7 +1,7 @@
 -- `everywhere::unpaired` meets its contract.
 use Prim.Native.Nat.{_-_}
 use native.Mathlib.Omega.{arith}
-use Rattle.everywhere.specs.Parts.{own5}
+use Rattle.everywhere.specs.Says.{own5}
 use Rattle.everywhere.proofs.Passes.{Always, Pass, pass-begin, pass-part, pass-again, pass-done, rule5-parts, rule5-clear}
 use Rattle.everywhere.proofs.Any.{any-third}
 use Rattle.everywhere.proofs.unpaired.Statement.{statement}
