@@ -165,8 +165,10 @@ fn what_is_missing() {
     // A copy of the script with nothing built beside it, and a path that has no rt.
     let folder = Path::new(env!("CARGO_TARGET_TMPDIR")).join("not-built");
     let _ = fs::remove_dir_all(&folder);
-    fs::create_dir_all(&folder).expect("a folder");
-    fs::copy(root().join("lister"), folder.join("lister")).expect("a copy");
+    fs::create_dir_all(folder.join("tools")).expect("a folder");
+    for file in ["lister", "tools/first-use.sh"] {
+        fs::copy(root().join(file), folder.join(file)).expect("a copy");
+    }
     let folders: Vec<PathBuf> = env::split_paths(&env::var_os("PATH").expect("a path")).collect();
     for tool in ["bash", "dirname", "readlink", "find"] {
         let mut places = folders.iter().map(|folder| folder.join(tool));
