@@ -5,19 +5,10 @@
  * (x86-64). Of other libraries it needs C's memcpy and memset alone. It allocates nothing,
  * keeps nothing between calls, so that threads may call it at once. A call takes at most
  * 1,440 KiB of stack, or at most 165 KiB for a text of at most 4,096 bytes, as measured
- * (tests/tests/stack.rs).
+ * (tests/tests/stack.rs). For programs in Rust there is a crate, rust/kebrawish.
  *
- * The answer of both functions is one word:
- *
- *   bits 56 to 63   the number of the broken rule, or 0 if the text is accepted
- *
- *   refused:        bits 32 to 55 are zero
- *                   bits  0 to 31 are the place of the refusal, an offset in the text
- *
- *   accepted:       bits 32 to 55 are the number of city objects
- *                   bits  0 to 31 are the length of the sheet (0 from kebrawish_judge)
- *
- * The lowest broken rule is given, at its earliest place:
+ * Both functions answer a struct, by value. If its `rule` is 0, the text is accepted. Else it is
+ * refused: the lowest broken rule is given, at its earliest place, and where the fault ends.
  *
  *    1  more than 65,535 bytes           10  wrong word
  *    2  not UTF-8                        11  type not carried
@@ -45,16 +36,15 @@
  *     int main(void)
  *     {
  *         static uint8_t sheet[KEBRAWISH_ROOM(sizeof text - 1)];
- *         uint64_t answer = kebrawish_lay((const uint8_t *)text, sizeof text - 1,
- *                                         sheet, sizeof sheet);
- *         unsigned rule = (unsigned)(answer >> 56);
- *         unsigned middle = (unsigned)(answer >> 32 & 0xFFFFFF);
- *         unsigned low = (unsigned)(answer & 0xFFFFFFFF);
+ *         kebrawish_answer answer = kebrawish_lay((const uint8_t *)text, sizeof text - 1,
+ *                                                 sheet, sizeof sheet);
  *
- *         if (rule != 0)
- *             printf("refused %u at %u\n", rule, low);
+ *         if (answer.rule != 0)
+ *             printf("refused %u at %u to %u\n", (unsigned)answer.rule,
+ *                    (unsigned)answer.place, (unsigned)answer.end);
  *         else
- *             printf("laid %u bytes, objects %u\n", low, middle);
+ *             printf("laid %u bytes, objects %u\n", (unsigned)answer.length,
+ *                    (unsigned)answer.objects);
  *         return 0;
  *     }
  *
@@ -80,11 +70,32 @@ extern "C" {
 #endif
 
 /*
+ * An answer. Fields that do not apply are 0: `place` and `end` if the text is accepted, `length`
+ * and `objects` if it is refused.
+ */
+typedef struct kebrawish_answer {
+    /* The number of the broken rule, 1 to 18, or 0 if the text is accepted. */
+    uint32_t rule;
+    /* The place of the refusal, an offset in the text. */
+    uint32_t place;
+    /*
+     * The end of the refusal: one past the last byte of the value or name at that place, or the
+     * place itself under the rules 1 to 5 and 18. It is at least the place, and at most the
+     * length of the text.
+     */
+    uint32_t end;
+    /* The length of the sheet in bytes, from kebrawish_lay; 0 from kebrawish_judge. */
+    uint32_t length;
+    /* The number of city objects. */
+    uint32_t objects;
+} kebrawish_answer;
+
+/*
  * Judges the text of `text_length` bytes at `text` by the rules 1 to 17.
  *
  * The bytes may be any. `text` is not null, also if `text_length` is 0.
  */
-uint64_t kebrawish_judge(const uint8_t *text, size_t text_length);
+kebrawish_answer kebrawish_judge(const uint8_t *text, size_t text_length);
 
 /*
  * Judges a text in the same way and, if it is accepted and its sheet is not longer than
@@ -94,8 +105,8 @@ uint64_t kebrawish_judge(const uint8_t *text, size_t text_length);
  * The bytes of both may be any, and the room of any length. Neither pointer is null, also if
  * a length is 0, and the room does not overlap the text.
  */
-uint64_t kebrawish_lay(const uint8_t *text, size_t text_length, uint8_t *sheet,
-                       size_t sheet_length);
+kebrawish_answer kebrawish_lay(const uint8_t *text, size_t text_length, uint8_t *sheet,
+                               size_t sheet_length);
 
 #ifdef __cplusplus
 }

@@ -104,9 +104,11 @@ fn main_table(sides: &[Rc<Side>], seconds: f64) -> Vec<(String, Vec<Runner>)> {
             );
         }
         race(&mut runners, seconds);
-        let objects = kebrawish_tests::judge(text.bytes()).word() >> 32;
+        let objects = kebrawish::judge(text.bytes())
+            .expect("an accepted text")
+            .objects;
         let mut cells = vec![name.clone()];
-        cells.extend([text.bytes().len(), objects as usize, room(&text)].map(|n| n.to_string()));
+        cells.extend([text.bytes().len(), objects, room(&text)].map(|n| n.to_string()));
         cells.extend(
             runners
                 .iter()

@@ -1,13 +1,13 @@
 //! The readers that are timed, each on a text in memory.
 
+use kebrawish::{Accepted, Laid, Refusal};
+use kebrawish_tests::{library, Verdict};
 use std::ffi::{c_char, c_int, c_void, CString};
-use std::ptr::{null_mut, NonNull};
+use std::ptr::NonNull;
 use std::rc::Rc;
 use std::time::{Duration, Instant};
 
 extern "C" {
-    fn kebrawish_judge(text: *const u8, length: usize) -> u64;
-    fn kebrawish_lay(text: *const u8, length: usize, sheet: *mut u8, room: usize) -> u64;
     fn dlopen(path: *const c_char, flags: c_int) -> *mut c_void;
     fn dlsym(library: *mut c_void, name: *const c_char) -> *mut c_void;
 }
@@ -90,10 +90,12 @@ pub struct Runner {
     pub best: Duration,
 }
 
-/// What a call gives: the word of judge or lay, or what a parser has in memory.
-struct Given {
-    word: u64,
-    tree: *mut c_void,
+/// What a call gives: an answer, or what a parser has in memory.
+enum Given {
+    Judged(Result<Accepted, Refusal>),
+    Laid(Result<Laid, Refusal>),
+    Read(Verdict),
+    Tree(*mut c_void),
 }
 
 impl Runner {
@@ -113,30 +115,21 @@ impl Runner {
     #[inline(never)]
     fn call(&mut self) -> Given {
         let text = self.text.bytes();
-        let (at, length) = (text.as_ptr(), text.len());
-        let word = |word| Given {
-            word,
-            tree: null_mut(),
-        };
-        // Safety: the pointers and lengths are those of slices that live through the call.
         match &*self.side {
-            Side::Judge => word(unsafe { kebrawish_judge(at, length) }),
-            Side::Lay => {
-                let (sheet, room) = (self.room.as_mut_ptr(), self.room.len());
-                word(unsafe { kebrawish_lay(at, length, sheet, room) })
-            }
-            Side::Reader => word(kebrawish_tests::judge(text).word()),
-            Side::Other(other) => {
-                let tree = unsafe { (other.parse)(at, length) };
-                Given { word: 0, tree }
-            }
+            Side::Judge => Given::Judged(kebrawish::judge(text)),
+            Side::Lay => Given::Laid(kebrawish::lay(text, &mut self.room)),
+            Side::Reader => Given::Read(kebrawish_tests::judge(text)),
+            // Safety: the pointer and the length are those of a slice that lives through the call.
+            Side::Other(other) => Given::Tree(unsafe { (other.parse)(text.as_ptr(), text.len()) }),
         }
     }
 
     fn release(&self, given: &Given) {
-        if let (Side::Other(other), false) = (&*self.side, given.tree.is_null()) {
-            // Safety: the parser gave it, and it is released once.
-            unsafe { (other.release)(given.tree) }
+        if let (Side::Other(other), Given::Tree(tree)) = (&*self.side, given) {
+            if !tree.is_null() {
+                // Safety: the parser gave it, and it is released once.
+                unsafe { (other.release)(*tree) }
+            }
         }
     }
 
@@ -162,22 +155,24 @@ impl Runner {
         let given = self.call();
         self.release(&given);
         let text = self.text.bytes();
-        match *self.side {
-            Side::Lay => {
+        let verdict = match given {
+            Given::Laid(answer) => {
                 let (verdict, bytes) = kebrawish_tests::lay(text, self.room.len());
-                assert_eq!(given.word, verdict.word(), "lay and the reader differ");
+                let laid = library::laid(text, answer);
+                assert_eq!(laid, verdict, "lay and the reader differ");
                 assert!(self.room == bytes, "the sheets differ");
+                verdict
             }
-            Side::Judge | Side::Reader => {
-                assert_eq!(
-                    given.word,
-                    kebrawish_tests::judge(text).word(),
-                    "judge and the reader differ"
-                );
+            Given::Judged(answer) => {
+                let verdict = kebrawish_tests::judge(text);
+                let judged = library::judged(text, answer);
+                assert_eq!(judged, verdict, "judge and the reader differ");
+                verdict
             }
-            Side::Other(_) => return u8::from(given.tree.is_null()),
-        }
-        (given.word >> 56) as u8
+            Given::Read(verdict) => verdict,
+            Given::Tree(tree) => return u8::from(tree.is_null()),
+        };
+        verdict.rule()
     }
 }
 

@@ -15,7 +15,7 @@ pub const PRETTY: Kind = kind("the same, pretty-printed", 0, |limit| {
 });
 
 /// The texts that might be slow.
-pub const WORST: [Kind; 22] = [
+pub const WORST: [Kind; 23] = [
     kind("one object of many names", 0, |limit| {
         largest(limit, usize::MAX, |n| names(n, short))
     }),
@@ -96,6 +96,7 @@ pub const WORST: [Kind; 22] = [
         characters(limit, "Kaiserstra\u{df}e 12, Haus am Markt, Hof 3; ")
     }),
     kind("white space", 3, |limit| " ".repeat(limit)),
+    kind("dense quarter, refused at its last number", 13, refused_last),
 ];
 
 const fn kind(name: &'static str, rule: u8, make: fn(usize) -> String) -> Kind {
@@ -236,6 +237,15 @@ pub fn dense(limit: usize) -> String {
     let mut text = largest(limit, usize::MAX, buildings);
     text.push_str(&"\n".repeat(limit - text.len()));
     text
+}
+
+/// A dense quarter whose last number is too large, so that its end is looked up past all others.
+fn refused_last(limit: usize) -> String {
+    let large = "2147483648";
+    let text = dense(limit - large.len());
+    let end = text.rfind("]]").expect("the last vertex");
+    let start = text[..end].rfind(',').expect("its last number") + 1;
+    format!("{}{large}{}", &text[..start], &text[end..])
 }
 
 /// Buildings with a part and an installation each, and street lamps.

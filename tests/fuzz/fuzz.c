@@ -8,9 +8,9 @@
 #include <stdlib.h>
 #include <string.h>
 
-uint64_t reader_judge(const uint8_t *text, size_t text_length);
-uint64_t reader_lay(const uint8_t *text, size_t text_length, uint8_t *sheet,
-                    size_t sheet_length);
+kebrawish_answer reader_judge(const uint8_t *text, size_t text_length);
+kebrawish_answer reader_lay(const uint8_t *text, size_t text_length, uint8_t *sheet,
+                            size_t sheet_length);
 
 /*
  * libFuzzer sees the branches of the reader. So that it sees something of the library as well,
@@ -19,19 +19,28 @@ uint64_t reader_lay(const uint8_t *text, size_t text_length, uint8_t *sheet,
  */
 __attribute__((section("__libfuzzer_extra_counters"))) static volatile uint8_t seen[19][257];
 
-static void compare(const char *call, uint64_t library, uint64_t reader)
+static void print(const char *side, kebrawish_answer answer)
 {
-    if (library == reader)
+    fprintf(stderr, "%s: rule %u, place %u, end %u, length %u, objects %u\n", side,
+            (unsigned)answer.rule, (unsigned)answer.place, (unsigned)answer.end,
+            (unsigned)answer.length, (unsigned)answer.objects);
+}
+
+static void compare(const char *call, kebrawish_answer library, kebrawish_answer reader)
+{
+    /* Five fields of one size: there are no bytes between them. */
+    if (memcmp(&library, &reader, sizeof library) == 0)
         return;
-    fprintf(stderr, "%s: library %016llx, reader %016llx\n", call, (unsigned long long)library,
-            (unsigned long long)reader);
+    fprintf(stderr, "%s:\n", call);
+    print("library", library);
+    print("reader", reader);
     abort();
 }
 
-static void see(uint64_t answer, const uint8_t *text, size_t length)
+static void see(kebrawish_answer answer, const uint8_t *text, size_t length)
 {
-    size_t place = answer & 0xFFFFFFFF;
-    seen[answer >> 56][answer >> 56 != 0 && place < length ? text[place] : 256] = 1;
+    int within = answer.rule != 0 && answer.place < length;
+    seen[answer.rule][within ? text[answer.place] : 256] = 1;
 }
 
 #ifdef KEBRAWISH_LAY
@@ -39,9 +48,9 @@ enum { LARGE = 200000, GUARD = 32 };
 static uint8_t library_room[LARGE + GUARD], reader_room[LARGE];
 
 /* Compares lay in a room of so many bytes, and that nothing after it is written. */
-static uint64_t compare_room(const uint8_t *text, size_t length, size_t room)
+static kebrawish_answer compare_room(const uint8_t *text, size_t length, size_t room)
 {
-    uint64_t library, reader;
+    kebrawish_answer library, reader;
     size_t i;
 
     memset(library_room, 0xA5, room + GUARD);
@@ -53,23 +62,27 @@ static uint64_t compare_room(const uint8_t *text, size_t length, size_t room)
         fprintf(stderr, "lay: the sheets differ in a room of %zu bytes\n", room);
         abort();
     }
-    for (i = room; i < room + GUARD; i++)
-        compare("the byte after the room", library_room[i], 0xA5);
+    for (i = room; i < room + GUARD; i++) {
+        if (library_room[i] != 0xA5) {
+            fprintf(stderr, "lay: a byte after a room of %zu bytes is written\n", room);
+            abort();
+        }
+    }
     return library;
 }
 #endif
 
 int LLVMFuzzerTestOneInput(const uint8_t *text, size_t length)
 {
-    uint64_t answer = kebrawish_judge(text, length);
+    kebrawish_answer answer = kebrawish_judge(text, length);
 
     compare("judge", answer, reader_judge(text, length));
     see(answer, text, length);
 #ifdef KEBRAWISH_LAY
-    if (answer >> 56 != 0) {
+    if (answer.rule != 0) {
         compare_room(text, length, length % 97);
     } else {
-        size_t sheet = compare_room(text, length, LARGE) & 0xFFFFFFFF;
+        size_t sheet = compare_room(text, length, LARGE).length;
         compare_room(text, length, sheet - 1);
         compare_room(text, length, sheet);
         compare_room(text, length, sheet / 3);

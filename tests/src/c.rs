@@ -14,7 +14,7 @@ pub fn header() -> PathBuf {
 
 /// The static library.
 pub fn library() -> PathBuf {
-    Path::new(env!("KEBRAWISH_STATICLIB_FOLDER")).join("libkebrawish.a")
+    PathBuf::from(env!("KEBRAWISH_ARCHIVE"))
 }
 
 /// A compiler with the options and the header's folder; none if it is not installed.

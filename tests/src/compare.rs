@@ -20,7 +20,7 @@ pub struct Answers {
 pub fn judge(text: &[u8], what: &str) -> Verdict {
     let expected = crate::judge(text);
     #[cfg(feature = "library")]
-    compare_words(text, crate::library::judge(text), expected, what);
+    compare_answers(text, crate::library::judge(text), expected, what);
     #[cfg(not(feature = "library"))]
     let _ = what;
     expected
@@ -78,7 +78,7 @@ fn compare_sheets(
 ) {
     let (found, bytes) = crate::library::lay(text, room, filling);
     let what = format!("{what}, in a room of {room} bytes");
-    compare_words(text, found, expected.0, &what);
+    compare_answers(text, found, expected.0, &what);
     let mut pairs = bytes.iter().zip(&expected.1);
     if let Some(place) = pairs.position(|(one, other)| one != other) {
         let (one, other) = (bytes[place], expected.1[place]);
@@ -92,20 +92,20 @@ fn compare_sheets(
 
 #[track_caller]
 #[cfg(feature = "library")]
-fn compare_words(text: &[u8], found: u64, expected: Verdict, what: &str) {
-    if found != expected.word() {
-        disagree(text, what, [readable(found), readable(expected.word())]);
+fn compare_answers(text: &[u8], found: Verdict, expected: Verdict, what: &str) {
+    if found != expected {
+        disagree(text, what, [readable(found), readable(expected)]);
     }
 }
 
-/// A word in readable form.
+/// An answer in readable form.
 #[cfg(feature = "library")]
-fn readable(word: u64) -> String {
-    let low = word as u32;
-    let middle = (word >> 32) & 0xFF_FFFF;
-    match word >> 56 {
-        0 => format!("accepted, length {low}, objects {middle}"),
-        rule => format!("refused {rule} at {low} (bits 32 to 55: {middle})"),
+fn readable(verdict: Verdict) -> String {
+    match verdict {
+        Verdict::Accepted { length, objects } => {
+            format!("accepted, length {length}, objects {objects}")
+        }
+        Verdict::Refused { rule, place, end } => format!("refused {rule} at {place} to {end}"),
     }
 }
 

@@ -1,9 +1,11 @@
-//! A recursive descent reader of JSON (RFC 8259) that keeps the place of every value and
-//! name. It reports rules 2, 3 and 4; unpaired surrogate escapes (rule 5) are collected.
+//! A recursive descent reader of JSON (RFC 8259) that keeps the place and the end of every
+//! value and name. It reports rules 2, 3 and 4; unpaired surrogate escapes (rule 5) are collected.
 //!
 //! The descent consumes a character only if the text up to and including it begins some
 //! JSON text. It stops at the first character for which this fails, so the place where it
 //! stops is the length of the longest such prefix.
+
+use std::ops::Range;
 
 use crate::Refusal;
 
@@ -45,7 +47,19 @@ pub struct Document {
     pub unpaired: Vec<usize>,
 }
 
+impl Member {
+    /// The bytes of the name, with its quotes.
+    pub fn name_bytes(&self) -> Range<usize> {
+        self.place..self.end
+    }
+}
+
 impl Node {
+    /// The bytes of the value, without the white space around it.
+    pub fn bytes(&self) -> Range<usize> {
+        self.place..self.end
+    }
+
     /// The value of the member of this name, if this is an object that has one.
     pub fn member(&self, name: &str) -> Option<&Node> {
         self.members()
@@ -107,10 +121,7 @@ pub fn read(text: &[u8]) -> Result<Document, Refusal> {
 /// Reads a text of at most `levels` levels.
 pub fn read_levels(text: &[u8], levels: usize) -> Result<Document, Refusal> {
     // Rule 2: RFC 3629 is what the standard library checks.
-    let text = std::str::from_utf8(text).map_err(|error| Refusal {
-        rule: 2,
-        place: error.valid_up_to(),
-    })?;
+    let text = std::str::from_utf8(text).map_err(|error| Refusal::at(2, error.valid_up_to()))?;
     let mut cursor = Cursor {
         text,
         place: 0,
@@ -145,10 +156,7 @@ impl Cursor<'_> {
 
     /// The refusal of the next character, or of the end (rule 3).
     fn stop<T>(&self) -> Result<T, Refusal> {
-        Err(Refusal {
-            rule: 3,
-            place: self.place,
-        })
+        Err(Refusal::at(3, self.place))
     }
 
     /// Consumes the given character or refuses.
@@ -211,10 +219,7 @@ impl Cursor<'_> {
     /// Opens a level with the given bracket, or refuses it as too deep (rule 4).
     fn open_level(&mut self, bracket: char) -> Result<(), Refusal> {
         if self.levels == 0 {
-            return Err(Refusal {
-                rule: 4,
-                place: self.place,
-            });
+            return Err(Refusal::at(4, self.place));
         }
         self.expect(bracket)?;
         self.levels -= 1;

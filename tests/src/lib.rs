@@ -21,46 +21,53 @@ pub mod samples;
 pub mod sheet;
 pub mod words;
 
+use std::ops::Range;
+
 use model::Model;
 
 /// The greatest length of a text, in bytes (rule 1).
 pub const TEXT_LIMIT: usize = 65_535;
 
-/// A broken rule and the place where it is broken; ordered by rule, then by place.
+/// A broken rule, the place where it is broken, and the end of the value or name there;
+/// ordered by rule, then by place.
 #[derive(Clone, Copy, Debug, PartialEq, Eq, PartialOrd, Ord, Hash)]
 pub struct Refusal {
     pub rule: u8,
     pub place: usize,
+    pub end: usize,
+}
+
+impl Refusal {
+    /// The refusal of a value or a name, which has these bytes (rules 6 to 17).
+    pub fn of(rule: u8, bytes: Range<usize>) -> Refusal {
+        Refusal {
+            rule,
+            place: bytes.start,
+            end: bytes.end,
+        }
+    }
+
+    /// The refusal at a place that is its own end (rules 1 to 5, and 18).
+    pub fn at(rule: u8, place: usize) -> Refusal {
+        Refusal::of(rule, place..place)
+    }
 }
 
 /// The answer for a text. `length` is the sheet's length, and 0 from `judge`.
 #[derive(Clone, Copy, Debug, PartialEq, Eq)]
 pub enum Verdict {
     Accepted { length: usize, objects: usize },
-    Refused { rule: u8, place: usize },
+    Refused { rule: u8, place: usize, end: usize },
 }
 
 impl From<Refusal> for Verdict {
     fn from(refusal: Refusal) -> Verdict {
-        Verdict::Refused {
-            rule: refusal.rule,
-            place: refusal.place,
-        }
+        let Refusal { rule, place, end } = refusal;
+        Verdict::Refused { rule, place, end }
     }
 }
 
 impl Verdict {
-    /// The answer in one word, as the library's C exports give it.
-    ///
-    /// Bits 56 to 63 are the rule's number, 0 for acceptance. Refused: bits 0 to 31 are
-    /// the place. Accepted: bits 0 to 31 are the length, bits 32 to 55 the object count.
-    pub fn word(self) -> u64 {
-        match self {
-            Verdict::Accepted { length, objects } => length as u64 | (objects as u64) << 32,
-            Verdict::Refused { rule, place } => place as u64 | u64::from(rule) << 56,
-        }
-    }
-
     /// The rule's number, 0 for acceptance.
     pub fn rule(self) -> u8 {
         match self {
@@ -74,10 +81,7 @@ impl Verdict {
 pub fn read(text: &[u8]) -> Result<Model, Refusal> {
     if text.len() > TEXT_LIMIT {
         // Rule 1.
-        return Err(Refusal {
-            rule: 1,
-            place: TEXT_LIMIT,
-        });
+        return Err(Refusal::at(1, TEXT_LIMIT));
     }
     let document = json::read(text)?;
     match rules::least(&document) {
@@ -107,7 +111,7 @@ pub fn lay(text: &[u8], room: usize) -> (Verdict, Vec<u8>) {
     let length = bytes.len();
     if length > room {
         // Rule 18.
-        return (Verdict::Refused { rule: 18, place: 0 }, vec![0; room]);
+        return (Refusal::at(18, 0).into(), vec![0; room]);
     }
     bytes.resize(room, 0);
     let objects = model.objects.len();

@@ -13,8 +13,8 @@ use crate::pages::root;
 pub const SUITE: [(&str, usize); 3] = [("y_", 95), ("n_", 188), ("i_", 35)];
 
 /// The rule and the place of the files on which parsers may differ. Numbers of any size are
-/// JSON, and the root is an array; an unpaired surrogate escape is rule 5, bytes that are no
-/// UTF-8 are rule 2, and a byte order mark begins no JSON text.
+/// JSON, and the root is an array, to the file's end; an unpaired surrogate escape is rule 5,
+/// bytes that are no UTF-8 are rule 2, and a byte order mark begins no JSON text.
 pub const OPEN_FILES: [(&str, u8, usize); 35] = [
     ("i_number_double_huge_neg_exp", 7, 0),
     ("i_number_huge_exp", 7, 0),

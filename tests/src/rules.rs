@@ -1,9 +1,10 @@
-//! Rules 5 to 17 over a JSON tree. Every fault is collected; the least one by rule and
-//! then by place is the answer.
+//! Rules 5 to 17 over a JSON tree. Every fault is collected with the bytes of the value or
+//! name that it is about; the least one by rule and then by place is the answer.
 //!
 //! A rule passes over a part that a lower rule refuses: the lower rule's fault is less.
 
 use std::collections::{HashMap, HashSet};
+use std::ops::Range;
 
 use crate::decimal;
 use crate::json::{Document, Member, Node, Value};
@@ -23,7 +24,7 @@ pub fn faults(document: &Document) -> Vec<Refusal> {
     let parts = Parts::of(&document.root);
     let mut faults = Faults::default();
     for place in &document.unpaired {
-        faults.add(5, *place);
+        faults.add(5, *place..*place);
     }
     repeated_names(&document.root, &mut faults);
     kinds(&parts, &mut faults);
@@ -44,13 +45,13 @@ struct Faults {
 }
 
 impl Faults {
-    fn add(&mut self, rule: u8, place: usize) {
-        self.list.push(Refusal { rule, place });
+    fn add(&mut self, rule: u8, bytes: Range<usize>) {
+        self.list.push(Refusal::of(rule, bytes));
     }
 
-    fn check(&mut self, rule: u8, place: usize, kept: bool) {
+    fn check(&mut self, rule: u8, bytes: Range<usize>, kept: bool) {
         if !kept {
-            self.add(rule, place);
+            self.add(rule, bytes);
         }
     }
 }
@@ -145,7 +146,7 @@ fn word(node: &Node) -> &str {
 fn repeated_names(node: &Node, faults: &mut Faults) {
     let mut earlier = HashSet::new();
     for member in node.members() {
-        faults.check(6, member.place, earlier.insert(&member.name));
+        faults.check(6, member.name_bytes(), earlier.insert(&member.name));
         repeated_names(&member.value, faults);
     }
     for item in node.items() {
@@ -225,7 +226,7 @@ fn object_kinds(object: &Node, faults: &mut Faults) {
 }
 
 fn kind(node: &Node, wanted: Kind, faults: &mut Faults) {
-    faults.check(7, node.place, wanted.holds(node));
+    faults.check(7, node.bytes(), wanted.holds(node));
 }
 
 fn member_kinds(node: &Node, names: &[&str], wanted: Kind, faults: &mut Faults) {
@@ -266,14 +267,14 @@ fn required_members(parts: &Parts, faults: &mut Faults) {
 
 fn required(node: &Node, names: &[&str], faults: &mut Faults) {
     for name in names {
-        faults.check(8, node.place, node.member(name).is_some());
+        faults.check(8, node.bytes(), node.member(name).is_some());
     }
 }
 
 /// Rule 9.
 fn object_count(parts: &Parts, faults: &mut Faults) {
     if let Some(member) = parts.objects.get(OBJECT_LIMIT) {
-        faults.add(9, member.place);
+        faults.add(9, member.name_bytes());
     }
 }
 
@@ -309,7 +310,7 @@ fn is_geometry_word(word: &str) -> bool {
 /// Rule 10 for one member, where it is present.
 fn known(node: &Node, name: &str, holds: impl Fn(&str) -> bool, faults: &mut Faults) {
     if let Some(value) = node.member(name) {
-        faults.check(10, value.place, value.string().is_some_and(holds));
+        faults.check(10, value.bytes(), value.string().is_some_and(holds));
     }
 }
 
@@ -317,12 +318,12 @@ fn known(node: &Node, name: &str, holds: impl Fn(&str) -> bool, faults: &mut Fau
 fn types_carried(parts: &Parts, faults: &mut Faults) {
     for member in parts.objects {
         if let Some(value) = member.value.member("type") {
-            faults.check(11, value.place, !word(&member.value).starts_with('+'));
+            faults.check(11, value.bytes(), !word(&member.value).starts_with('+'));
         }
     }
     for geometry in &parts.geometries {
         if let Some(value) = geometry.node.member("type") {
-            faults.check(11, value.place, geometry.word() != words::INSTANCE);
+            faults.check(11, value.bytes(), geometry.word() != words::INSTANCE);
         }
     }
 }
@@ -330,10 +331,10 @@ fn types_carried(parts: &Parts, faults: &mut Faults) {
 /// Rule 12.
 fn shapes(parts: &Parts, faults: &mut Faults) {
     for array in parts.transform_arrays() {
-        faults.check(12, array.place, array.items().len() == 3);
+        faults.check(12, array.bytes(), array.items().len() == 3);
     }
     for vertex in elements(parts.root, "vertices") {
-        faults.check(12, vertex.place, is_vertex(vertex));
+        faults.check(12, vertex.bytes(), is_vertex(vertex));
     }
     for geometry in &parts.geometries {
         geometry_shape(geometry, faults);
@@ -364,8 +365,8 @@ fn geometry_shape(geometry: &Geometry, faults: &mut Faults) {
             wrong_counts(values, boundary, values_depth, &mut wrong);
         }
     }
-    for place in wrong {
-        faults.add(12, place);
+    for node in wrong {
+        faults.add(12, node.bytes());
     }
 }
 
@@ -375,7 +376,12 @@ fn is_value(node: &Node) -> bool {
 
 /// The elements of an array of the given depth that are no array above the last level, or
 /// that do not pass `leaf` at the last level.
-fn wrong_elements(array: &Node, depth: usize, leaf: fn(&Node) -> bool, wrong: &mut Vec<usize>) {
+fn wrong_elements<'a>(
+    array: &'a Node,
+    depth: usize,
+    leaf: fn(&Node) -> bool,
+    wrong: &mut Vec<&'a Node>,
+) {
     for item in array.items() {
         let kept = if depth == 1 {
             leaf(item)
@@ -383,7 +389,7 @@ fn wrong_elements(array: &Node, depth: usize, leaf: fn(&Node) -> bool, wrong: &m
             item.is_array()
         };
         if !kept {
-            wrong.push(item.place);
+            wrong.push(item);
         } else if depth > 1 {
             wrong_elements(item, depth - 1, leaf, wrong);
         }
@@ -391,12 +397,12 @@ fn wrong_elements(array: &Node, depth: usize, leaf: fn(&Node) -> bool, wrong: &m
 }
 
 /// The arrays of the values whose count is not that of the boundary's array there.
-fn wrong_counts(values: &Node, boundary: &Node, depth: usize, wrong: &mut Vec<usize>) {
+fn wrong_counts<'a>(values: &'a Node, boundary: &Node, depth: usize, wrong: &mut Vec<&'a Node>) {
     if !values.is_array() {
         return;
     }
     if values.items().len() != boundary.items().len() {
-        wrong.push(values.place);
+        wrong.push(values);
     }
     if depth > 1 {
         for (value, part) in values.items().iter().zip(boundary.items()) {
@@ -410,7 +416,7 @@ fn ranges(parts: &Parts, faults: &mut Faults) {
     for array in parts.transform_arrays() {
         for number in array.items() {
             let pair = number.numeral().and_then(decimal::pair);
-            faults.check(13, number.place, pair.is_some());
+            faults.check(13, number.bytes(), pair.is_some());
         }
     }
     let coordinates = i128::from(i32::MIN)..i128::from(i32::MAX) + 1;
@@ -434,7 +440,7 @@ fn leaf_ranges(node: &Node, range: &std::ops::Range<i128>, faults: &mut Faults) 
         let value = decimal::integer(numeral);
         faults.check(
             13,
-            node.place,
+            node.bytes(),
             value.is_some_and(|value| range.contains(&value)),
         );
     }
@@ -453,7 +459,7 @@ fn permissions(parts: &Parts, faults: &mut Faults) {
             continue;
         };
         let permitted = words::permitted(word(geometry.object));
-        faults.check(14, value.place, permitted.contains(&code));
+        faults.check(14, value.bytes(), permitted.contains(&code));
     }
 }
 
@@ -471,7 +477,7 @@ fn links(parts: &Parts, faults: &mut Faults) {
         }
         let parentless = elements(object, "parents").is_empty();
         let second = words::is_second_level(word(object));
-        faults.check(16, object.place, !(second && parentless));
+        faults.check(16, object.bytes(), !(second && parentless));
         one_sided(member, "parents", "children", &objects, faults);
         if word(object) != words::GROUP {
             one_sided(member, "children", "parents", &objects, faults);
@@ -484,8 +490,8 @@ fn link_list(list: &[Node], objects: &HashMap<&str, &Node>, faults: &mut Faults)
     let mut earlier = HashSet::new();
     for entry in list {
         if let Some(id) = entry.string() {
-            faults.check(15, entry.place, objects.contains_key(id));
-            faults.check(15, entry.place, earlier.insert(id));
+            faults.check(15, entry.bytes(), objects.contains_key(id));
+            faults.check(15, entry.bytes(), earlier.insert(id));
         }
     }
 }
@@ -504,6 +510,6 @@ fn one_sided(
         };
         let mut listed = elements(other, other_list).iter();
         let returned = listed.any(|back| back.string() == Some(member.name.as_str()));
-        faults.check(17, entry.place, returned);
+        faults.check(17, entry.bytes(), returned);
     }
 }

@@ -104,8 +104,16 @@ fn the_refused_example() {
     let verdict = compare::all(&text, "the refused example").judge;
     let text = String::from_utf8(text).expect("UTF-8");
     let place = text.find("\"house\"]").expect("the link");
-    assert_eq!(place, 251);
-    assert_eq!(verdict, Verdict::Refused { rule: 17, place });
+    let end = place + "\"house\"".len();
+    assert_eq!((place, end), (251, 258));
+    assert_eq!(
+        verdict,
+        Verdict::Refused {
+            rule: 17,
+            place,
+            end
+        }
+    );
 }
 
 #[test]

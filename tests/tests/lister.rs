@@ -72,8 +72,9 @@ fn sample_readings() {
         line(&text, text.len().max(1));
     }
     assert_eq!(line(MINIMAL.as_bytes(), 1), "laid 78 bytes, objects 0\n");
-    assert_eq!(line(b"{}", 1), "refused 8 at 0\n");
-    assert_eq!(line(b"", 1), "refused 3 at 0\n");
+    assert_eq!(line(b"{}", 1), "refused 8 at 0 to 2\n");
+    assert_eq!(line(br#"{"a":1,"a":2}"#, 1), "refused 6 at 7 to 10\n");
+    assert_eq!(line(b"", 1), "refused 3 at 0 to 0\n");
 }
 
 #[test]
@@ -82,7 +83,7 @@ fn examples() {
     assert_eq!(print("minimal.city.json"), "laid 78 bytes, objects 0\n");
     assert_eq!(print("kiosk.city.json"), "laid 133 bytes, objects 1\n");
     assert_eq!(print("quarter.city.json"), "laid 1777 bytes, objects 9\n");
-    assert_eq!(print("refused.city.json"), "refused 17 at 251\n");
+    assert_eq!(print("refused.city.json"), "refused 17 at 251 to 258\n");
 }
 
 #[test]
@@ -90,21 +91,21 @@ fn a_slow_pipe() {
     let market = example("quarter.city.json");
     assert_eq!(line(&market, 7), "laid 1777 bytes, objects 9\n");
     assert_eq!(line(&padded(TEXT_LIMIT), 97), "laid 78 bytes, objects 0\n");
-    assert_eq!(line(&padded(200_000), 97), "refused 1 at 65535\n");
+    assert_eq!(line(&padded(200_000), 97), "refused 1 at 65535 to 65535\n");
 }
 
 #[test]
 fn long_texts() {
     let print = |length: usize| line(&padded(length), usize::MAX);
     assert_eq!(print(TEXT_LIMIT), "laid 78 bytes, objects 0\n");
-    assert_eq!(print(TEXT_LIMIT + 1), "refused 1 at 65535\n");
-    assert_eq!(print(TEXT_LIMIT + 2), "refused 1 at 65535\n");
-    assert_eq!(print(200_000), "refused 1 at 65535\n");
+    assert_eq!(print(TEXT_LIMIT + 1), "refused 1 at 65535 to 65535\n");
+    assert_eq!(print(TEXT_LIMIT + 2), "refused 1 at 65535 to 65535\n");
+    assert_eq!(print(200_000), "refused 1 at 65535 to 65535\n");
     assert_eq!(
         line(&vec![0xFF; 65_536], usize::MAX),
-        "refused 1 at 65535\n"
+        "refused 1 at 65535 to 65535\n"
     );
-    assert_eq!(line(&vec![0xFF; 65_535], usize::MAX), "refused 2 at 0\n");
+    assert_eq!(line(&vec![0xFF; 65_535], usize::MAX), "refused 2 at 0 to 0\n");
 }
 
 /// Kinds 1, 2 and 9 are 78 bytes and 12 a vertex: 5,454 fit in 65,536 bytes.
@@ -113,7 +114,7 @@ fn a_sheet_that_does_not_fit() {
     let vertices = |count: usize| vec!["[0,0,0]"; count].join(",");
     let print = |count: usize| line(document("", &vertices(count)).as_bytes(), usize::MAX);
     assert_eq!(print(5_454), "laid 65526 bytes, objects 0\n");
-    assert_eq!(print(5_455), "refused 18 at 0\n");
+    assert_eq!(print(5_455), "refused 18 at 0 to 0\n");
 }
 
 /// Reading a folder fails, and so does writing to a full device: there is no line then, a

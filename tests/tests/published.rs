@@ -1,9 +1,11 @@
 //! The published test files, on the reader and, with the features `library` and `lay`, on
 //! the library.
 
-use kebrawish_tests::published::{json_suite, utf8_lines, OPEN_FILES};
+use std::ops::Range;
+
+use kebrawish_tests::published::{json_suite, utf8_lines, File, OPEN_FILES};
 use kebrawish_tests::samples::{document, MINIMAL};
-use kebrawish_tests::{compare, Verdict};
+use kebrawish_tests::{compare, Refusal, Verdict};
 
 /// The files of the suite, each as a text, as an unexamined member and as a city object.
 #[test]
@@ -14,7 +16,7 @@ fn the_json_suite() {
     for file in &files {
         let name = file.name.as_str();
         let verdict = compare::all(&file.bytes, name).judge;
-        check_file(name, verdict);
+        check_file(file, verdict);
         let value = file.bytes.as_slice();
         let start = br#"{"metadata":"#.as_slice();
         let rest = MINIMAL.replacen('{', ",", 1).into_bytes();
@@ -28,19 +30,50 @@ fn the_json_suite() {
 }
 
 /// What the suite says of a file, by its name.
-fn check_file(name: &str, verdict: Verdict) {
-    let rule = verdict.rule();
+fn check_file(file: &File, verdict: Verdict) {
+    let name = file.name.as_str();
     match name.split_at(2).0 {
-        // JSON, and none of these is too long or too deep.
-        "y_" => assert!(rule == 0 || rule > 5, "{name}: {verdict:?}"),
-        "n_" => assert!((1..=4).contains(&rule), "{name}: {verdict:?}"),
+        "y_" => check_json(file, verdict),
+        "n_" => assert!((1..=4).contains(&verdict.rule()), "{name}: {verdict:?}"),
         _ => {
             let mut rows = OPEN_FILES.iter();
             let row = rows.find(|row| name.strip_suffix(".json") == Some(row.0));
             let (_, rule, place) = *row.unwrap_or_else(|| panic!("{name} is in no row"));
-            assert_eq!(verdict, Verdict::Refused { rule, place }, "{name}");
+            let refusal = match rule {
+                7 => Refusal::of(rule, place..file.bytes.len()),
+                _ => Refusal::at(rule, place),
+            };
+            assert_eq!(verdict, refusal.into(), "{name}");
         }
     }
+}
+
+/// JSON, and none of these is too long or too deep, or has the members of a city: the root is
+/// refused, if no name is repeated.
+fn check_json(file: &File, verdict: Verdict) {
+    let name = file.name.as_str();
+    match verdict.rule() {
+        6 => assert!(
+            name.starts_with("y_object_duplicated"),
+            "{name}: {verdict:?}"
+        ),
+        rule => {
+            assert!([7, 8].contains(&rule), "{name}: {verdict:?}");
+            assert_eq!(
+                verdict,
+                Refusal::of(rule, trimmed(&file.bytes)).into(),
+                "{name}"
+            );
+        }
+    }
+}
+
+/// Where a text begins and ends without the white space around it.
+fn trimmed(text: &[u8]) -> Range<usize> {
+    let filled = |byte: &u8| !b" \t\n\r".contains(byte);
+    let first = text.iter().position(filled).expect("a value");
+    let last = text.iter().rposition(filled).expect("a value");
+    first..last + 1
 }
 
 /// Kuhn's labels of lines that are UTF-8 by RFC 3629.
@@ -57,12 +90,12 @@ fn labelled(line: &[u8]) -> Option<Verdict> {
         return None;
     }
     let label = String::from_utf8_lossy(&line[..5]).into_owned();
-    let (rule, place) = if WHOLE.contains(&label.as_str()) {
-        (3, 3)
+    let refusal = if WHOLE.contains(&label.as_str()) {
+        Refusal::at(3, 3)
     } else {
-        (2, quote + 1)
+        Refusal::at(2, quote + 1)
     };
-    Some(Verdict::Refused { rule, place })
+    Some(refusal.into())
 }
 
 /// The lines of the UTF-8 test, each as a text, in a JSON string and as an object's name.

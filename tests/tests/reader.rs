@@ -29,9 +29,10 @@ fn line(arguments: &[&str], text: &[u8]) -> String {
 fn the_printed_line() {
     let minimal = MINIMAL.as_bytes();
     assert_eq!(line(&[], minimal), "laid 78 bytes, objects 0\n");
-    assert_eq!(line(&[], b"{}"), "refused 8 at 0\n");
+    assert_eq!(line(&[], b"{}"), "refused 8 at 0 to 2\n");
+    assert_eq!(line(&[], br#"{"a":1,"a":2}"#), "refused 6 at 7 to 10\n");
     assert_eq!(line(&["--judge"], minimal), "accepted, objects 0\n");
-    assert_eq!(line(&["--judge"], b"{}"), "refused 8 at 0\n");
+    assert_eq!(line(&["--judge"], b"{}"), "refused 8 at 0 to 2\n");
 }
 
 #[test]
@@ -116,17 +117,11 @@ fn short_texts_by_definition() {
         let answer = json::read_levels(text, 1).map(drop);
         let expected = if longest < text.len() {
             let rule = if begins(longest + 1, 8) { 4 } else { 3 };
-            Err(Refusal {
-                rule,
-                place: longest,
-            })
+            Err(Refusal::at(rule, longest))
         } else if answer.is_ok() {
             Ok(())
         } else {
-            Err(Refusal {
-                rule: 3,
-                place: longest,
-            })
+            Err(Refusal::at(3, longest))
         };
         assert_eq!(answer, expected, "{:?}", String::from_utf8_lossy(text));
     }

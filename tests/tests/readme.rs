@@ -15,13 +15,13 @@ fn source(file: &str) -> String {
 }
 
 /// The file of specifications that a line `use Rattle.NAME.specs.FILE..` names: of another
-/// crate, or of its own with `·specs` after the name.
+/// crate, or of its own with `·specs` after the name. What the code declares is in none.
 fn used(line: &str) -> Option<String> {
     let (_, path) = line.split_once("use Rattle·")?;
     let mut parts = path.split(['.', ' ']);
     let name = parts.next()?.trim_end_matches("·specs").to_string();
     let (_, file) = (parts.next()?, parts.next()?);
-    Some(format!("crates/{name}/specs/{file}.antt"))
+    (file != "declared").then(|| format!("crates/{name}/specs/{file}.antt"))
 }
 
 /// The files that a file uses.
@@ -140,4 +140,24 @@ fn links_lead_somewhere() {
     }
     println!("{count} links");
     assert!(count > 20);
+}
+
+/// The answers that the page shows below a command of `./kebrawish` are those that it prints.
+#[test]
+#[cfg(feature = "lay")]
+fn the_desk_answers_as_shown() {
+    let readme = readme();
+    let (_, rest) = readme.split_once("\n    $ ").expect("a command");
+    let (command, rest) = rest.split_once('\n').expect("its answers");
+    let shown: Vec<&str> = rest.lines().map_while(|line| line.strip_prefix("    ")).collect();
+    assert!(command.starts_with("./kebrawish judge") && shown.len() > 4);
+    let shell = std::process::Command::new("sh")
+        .args(["-c", command])
+        .current_dir(root())
+        .output()
+        .expect("a shell");
+    let said = String::from_utf8_lossy(&shell.stderr);
+    assert_eq!(shell.status.code(), Some(1), "{said}");
+    let printed = String::from_utf8(shell.stdout).expect("UTF-8");
+    assert_eq!(printed.lines().collect::<Vec<_>>(), shown);
 }

@@ -66,10 +66,11 @@ fn each_rule_has_its_text() {
     assert_eq!(numbers, (1..=18).map(|rule| rule.to_string()).collect::<Vec<_>>());
     for rule in 1..=18 {
         let sample = sample(&page, rule);
-        let Verdict::Refused { rule: found, place } = answer(&sample.text, sample.room) else {
+        let verdict = answer(&sample.text, sample.room);
+        let Verdict::Refused { rule: found, place, end } = verdict else {
             panic!("the text of rule {rule} is accepted");
         };
-        assert_eq!(format!("refused {found} at {place}"), sample.answer);
+        assert_eq!(format!("refused {found} at {place} to {end}"), sample.answer);
         assert_eq!(found, rule);
     }
 }

@@ -43,17 +43,22 @@ fn program() -> PathBuf {
     program
 }
 
-/// The two figures of the header, in bytes: for any text, and for a short one.
+/// The two figures of the header.
 fn stated() -> (usize, usize) {
-    let header = fs::read_to_string(header()).expect("the header");
-    let words: Vec<&str> = header.split_whitespace().collect();
+    stated_in(&header())
+}
+
+/// The two figures that a file states, in bytes: for any text, and for a short one.
+fn stated_in(file: &Path) -> (usize, usize) {
+    let text = fs::read_to_string(file).expect("a file");
+    let words: Vec<&str> = text.split_whitespace().collect();
     let figures: Vec<usize> = words
         .windows(2)
         .filter(|pair| pair[1] == "KiB")
         .map(|pair| pair[0].replace(',', "").parse::<usize>().expect("a number") * 1024)
         .collect();
     let [any, short] = figures[..] else {
-        panic!("the header has {} figures in KiB", figures.len());
+        panic!("{} has {} figures in KiB", file.display(), figures.len());
     };
     (any, short)
 }
@@ -117,4 +122,10 @@ fn the_header_states_the_stack() {
         let worst = of.map(Taken::most).max().expect("a text");
         assert!(worst >= stated / 5 * 4, "{worst} is far below {stated}");
     }
+}
+
+#[test]
+fn the_crate_states_the_same() {
+    let source = Path::new(PACKAGE).join("../rust/kebrawish/src/lib.rs");
+    assert_eq!(stated_in(&source), stated());
 }

@@ -31,18 +31,18 @@ sheet-twice x n e =
 pub at-most-twice : (x : List ℕ) (r l n : ℕ) → answer x r ≡ laid l n → l ≤ 2 * length x
 at-most-twice x r l n e = let q = of-laid x r l n e in omega (arith, q .size, sheet-twice x n (q .accepted))
 
--- and in a room of twice the text's bytes lay never answers 18, at any place
-pub twice-suffices : (x : List ℕ) (r : ℕ) → 2 * length x ≤ r → (p : ℕ) → answer x r ≢ refused 18 p
-twice-suffices x r h p e = let ((n, a), k) = too-long x r e in omega (arith, sheet-twice x n a)
+-- and in a room of twice the text's bytes lay never answers 18, at any place, with any end
+pub twice-suffices : (x : List ℕ) (r : ℕ) → 2 * length x ≤ r → (p e : ℕ) → answer x r ≢ refused 18 p e
+twice-suffices x r h p e z = let ((n, a), k) = too-long x r z in omega (arith, sheet-twice x n a)
 
 -- so never in the room that the header gives
-pub never-eighteen : (x : List ℕ) (r : ℕ) → roomFor (length x) ≤ r → (p : ℕ) → answer x r ≢ refused 18 p
+pub never-eighteen : (x : List ℕ) (r : ℕ) → roomFor (length x) ≤ r → (p e : ℕ) → answer x r ≢ refused 18 p e
 unfolding roomFor
 never-eighteen x r h = twice-suffices x r (omega arith)
 
 -- nor in 262,140 bytes, whatever the text: that is the header's room for 65,535 bytes, and rule 1 refuses a longer text
-pub any-text : (x : List ℕ) (r : ℕ) → 262140 ≤ r → (p : ℕ) → answer x r ≢ refused 18 p
-any-text x r h p e = let ((n, a), k) = too-long x r e in omega (arith, accepted-clean x n a .short, sheet-twice x n a)
+pub any-text : (x : List ℕ) (r : ℕ) → 262140 ≤ r → (p e : ℕ) → answer x r ≢ refused 18 p e
+any-text x r h p e z = let ((n, a), k) = too-long x r z in omega (arith, accepted-clean x n a .short, sheet-twice x n a)
 
 -- ---- the factor is near: each `0,` of a boundary makes four bytes of the sheet
 
@@ -66,6 +66,6 @@ unfolding lays dense zeros roomFor
 dense-laid = refl
 
 -- one and a half times the text does not
-dense-refused : lays (dense 200) 906 ≡ refused 18 0
+dense-refused : lays (dense 200) 906 ≡ refused 18 0 0
 unfolding lays dense zeros
 dense-refused = refl

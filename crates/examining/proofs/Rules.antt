@@ -43,12 +43,12 @@ use Rattle.examining.proofs.Rooms.{room-for}
 -- ---- rules 1 and 2
 
 module _ (x : List ℕ) where
-  pub screen-long : 65535 < length x → screenedAs (screened.Refused (record { rule = broken.TooLong; place = 65535 })) ≡ screening x
+  pub screen-long : 65535 < length x → screenedAs (screened.Refused (record { rule = broken.TooLong; place = 65535; end = 65535 })) ≡ screening x
   unfolding screenedAs screening ruleNumber
   screen-long h = rw (lt-ltb 65535 (length x) h)
 
   module _ {n : ℕ} (short : length x ≤ 65535) (whole : n ≡ wholeLength x) where
-    pub screen-odd : n < length x → screenedAs (screened.Refused (record { rule = broken.NotUtf8; place = n })) ≡ screening x
+    pub screen-odd : n < length x → screenedAs (screened.Refused (record { rule = broken.NotUtf8; place = n; end = n })) ≡ screening x
     unfolding screenedAs screening ruleNumber
     screen-odd h = rw (le-ltb 65535 (length x) short, lt-ltb (wholeLength x) (length x) (omega arith), whole)
 
@@ -66,11 +66,11 @@ module _ (x t₀ t : List ℕ) {r : Parsed} (h : Tells x t₀ t r) where
       let m : TreeIn x t₀ t n = record { tree = record { value = s .value; short = s .short; reads = s .reads; stands = s .stands; ends = s .ends }; rest = s .rest } in
       record { is = rw (s .reads, s .ends); holds = λ k q. let z : n ≡ k = cc in rw (← z) m }
 
-  pub open-bad : {p : ℕ} → r ≡ parse.Bad p → Opens x t₀ t (opened.Refused (record { rule = broken.NotJson; place = p }))
+  pub open-bad : {p : ℕ} → r ≡ parse.Bad p → Opens x t₀ t (opened.Refused (record { rule = broken.NotJson; place = p; end = p }))
   unfolding Tells openedAs treeOrRefusal parsed ruleNumber
   open-bad e = record { is = rw (subst (Tells x t₀ t) e h .1); holds = λ k q. clash cc }
 
-  pub open-deep : {p : ℕ} → r ≡ parse.Deep p → Opens x t₀ t (opened.Refused (record { rule = broken.TooDeep; place = p }))
+  pub open-deep : {p : ℕ} → r ≡ parse.Deep p → Opens x t₀ t (opened.Refused (record { rule = broken.TooDeep; place = p; end = p }))
   unfolding Tells openedAs treeOrRefusal parsed ruleNumber
   open-deep e = record { is = rw (subst (Tells x t₀ t) e h .1); holds = λ k q. clash cc }
 

@@ -18,7 +18,7 @@ use Rattle.nodes.specs.Access.{Member}
 use Rattle.fields.specs.Says.{Indexed}
 use Rattle.fields.specs.declared.Index.{Index}
 use Rattle.ids.specs.Says.{Offsets}
-use Rattle.nodes.specs.Faults.{ruleOf, placeIn, noFault}
+use Rattle.nodes.specs.Faults.{noFault}
 use Rattle.json.specs.Table.{size}
 use Rattle.json.specs.Laws.{sub-within}
 use Rattle.nodes.specs.Laws.{fresh-length}
@@ -28,6 +28,7 @@ use Rattle.verdict.specs.Verdict.{accepted, refused, faults, parsed, screening,
 use Rattle.verdict.specs.Verdict as judged
 use Rattle.verdict.specs.Exact.{verdict-long, verdict-odd, verdict-read, in-text}
 use Rattle.refusals.specs.Refusals.{refusal}
+use Rattle.refusals.specs.Says.{Tabled, Refuses}
 use Rattle.refusals.specs.declared.Refusal.{Refusal}
 use Rattle.examining.specs.declared.Screened.{Screened}
 use Rattle.examining.specs.declared.Screened.the-variants as screened
@@ -48,7 +49,7 @@ unfolding screening
 left x = by (ltb 65535 (length x)) (ltb (wholeLength x) (length x)) refl refl
   where
     by : (a b : Bool) → ltb 65535 (length x) ≡ a → ltb (wholeLength x) (length x) ≡ b
-        → Left x (cond a (some (refused 1 65535)) (cond b (some (refused 2 (wholeLength x))) option.none))
+        → Left x (cond a (some (refused 1 65535 65535)) (cond b (some (refused 2 (wholeLength x) (wholeLength x))) option.none))
     by true b p q = verdict-long x (ltb-true _ _ p)
     by false true p q = verdict-odd x (ltb-false _ _ p) (ltb-true _ _ q)
     by false false p q = (ltb-false _ _ p, verdict-read x (ltb-false _ _ p) (ltb-false _ _ q))
@@ -86,14 +87,19 @@ module _ (x t₀ t : List ℕ) {r : Opened} (h : Opens x t₀ t r) where
 
 -- ---- rules 5 to 17
 
+-- as the lookup of an end asks
+pub tabled : {x t : List ℕ} {n : ℕ} → Stands x t n → Tabled t n
+tabled {x} s = record { text = x; value = s .value; stands = s .stands; ends = s .ends }
+
 module _ {x t : List ℕ} {n : ℕ} {w : Walked} (s : Stands x t n) (h : Examined x t w) where
   -- a tree with no fault
   pub clean : noFault ≤ w .least → faults (s .value) ≡ []
   clean k = no-fault (s .value) (in-text x (s .value) (s .short) (s .reads)) (h .least (s .value) (s .reads)) k
 
-  pub table-refused : (f : Refusal) → w .least < noFault → refusal f ≡ refused (ruleOf (w .least)) (placeIn (w .least)) → refusal f ≡ parsed (read x)
+  -- the refusal of its least fault
+  pub table-refused : (f : Refusal) → w .least < noFault → Refuses t (w .least) f → refusal f ≡ parsed (read x)
   unfolding parsed
-  table-refused f k e = e ∙ sym (ap parsed (s .reads) ∙ judged-fault (s .value) (h .least (s .value) (s .reads)) k)
+  table-refused f k e = e .is x (s .value) (s .stands) ∙ sym (ap parsed (s .reads) ∙ judged-fault (s .value) (h .least (s .value) (s .reads)) k)
 
   pub table-accepted : noFault ≤ w .least → accepted (w .index .count) ≡ parsed (read x)
   unfolding parsed

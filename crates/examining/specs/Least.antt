@@ -20,9 +20,9 @@ use Rattle.fields.specs.Fields.{membersIn, countIn, objectsOf}
 use Rattle.rules.specs.Schema.{cityJson, cityObjects, objectLimit, nameFault, transform, word}
 use Rattle.rules.specs.Links.{linkFaults}
 use Rattle.model.specs.Code.{All}
-use Rattle.verdict.specs.Verdict.{accepted, refused, faults, given, judged}
+use Rattle.verdict.specs.Verdict.{accepted, refused, faults, endOfFault, given, judged}
 use Rattle.sheets.specs.Clear.{nil-left, nil-right}
-use Rattle.verdict.specs.Places.{Among, Placed, early, early-among, links-safe, faults-small}
+use Rattle.verdict.specs.Places.{Among, Placed, early, early-among, links-among, faults-small}
 
 -- ---- the least of a list of faults of the rules from lo to before hi
 
@@ -63,7 +63,7 @@ all-passes v p q = q ∙ ap (λ (n : ℕ). least n (linkFaults v)) p ∙ sym (le
 module _ (v : Json) (d : Placed v) where
   -- a fault of the rules 5 to 14 is less than every fault of the links
   pub before-links : {c : ℕ} → c ≡ least noFault (early v) → c < noFault → c ≡ least noFault (faults v)
-  before-links {c} p h = all-passes v p (of (least-among 5 15 noFault (early v) (early-among v d)) (least-among 15 18 c (linkFaults v) (links-safe v d)))
+  before-links {c} p h = all-passes v p (of (least-among 5 15 noFault (early v) (early-among v d)) (least-among 15 18 c (linkFaults v) (links-among v d)))
     where
       of : (least noFault (early v) ≡ noFault) ⊎ Among 5 15 (least noFault (early v)) → (least c (linkFaults v) ≡ c) ⊎ Among 15 18 (least c (linkFaults v))
           → c ≡ least c (linkFaults v)
@@ -95,7 +95,7 @@ module _ (v : Json) (d : Placed v) where
 
 -- ---- the verdict of the least
 
-pub judged-fault : (v : Json) {f : ℕ} → f ≡ least noFault (faults v) → f < noFault → judged v ≡ refused (ruleOf f) (placeIn f)
+pub judged-fault : (v : Json) {f : ℕ} → f ≡ least noFault (faults v) → f < noFault → judged v ≡ refused (ruleOf f) (placeIn f) (endOfFault v f)
 unfolding judged given
 judged-fault v {f} e h = rw (← e, lt-ltb f noFault h) refl
 

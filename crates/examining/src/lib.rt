@@ -30,6 +30,7 @@ pub fn screen(text: &[u8]) -> Screened
         return Screened::Refused(Refusal {
             rule: Broken::TooLong,
             place: 65535,
+            end: 65535,
         });
     }
     let whole = utf8::whole(text);
@@ -37,6 +38,7 @@ pub fn screen(text: &[u8]) -> Screened
         return Screened::Refused(Refusal {
             rule: Broken::NotUtf8,
             place: whole,
+            end: whole,
         });
     }
     Screened::Passed
@@ -53,18 +55,22 @@ pub fn open(text: &[u8], table: &mut [u32]) -> Opened
         Parsed::Bad(p) => Opened::Refused(Refusal {
             rule: Broken::NotJson,
             place: p,
+            end: p,
         }),
         Parsed::Deep(p) => Opened::Refused(Refusal {
             rule: Broken::TooDeep,
             place: p,
+            end: p,
         }),
         Parsed::Long => Opened::Refused(Refusal {
             rule: Broken::TooLong,
             place: 65535,
+            end: 65535,
         }),
         Parsed::Short => Opened::Refused(Refusal {
             rule: Broken::TooLong,
             place: 65535,
+            end: 65535,
         }),
     }
 }

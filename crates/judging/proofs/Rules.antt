@@ -8,17 +8,17 @@ use lib.Dec.{leb}
 use borrow.Author.Needs.{needs}
 use borrow.Author.Tests.{leb-true}
 use Rattle.json.specs.Machine.{read}
-use Rattle.nodes.specs.Faults.{ruleOf, placeIn, noFault}
+use Rattle.nodes.specs.Faults.{noFault}
 use Rattle.schema.specs.declared.Walked.{Walked}
-use Rattle.verdict.specs.Verdict.{refused, parsed, screening, verdict}
-use Rattle.refusals.specs.Refusals.{refusal}
+use Rattle.verdict.specs.Verdict.{parsed, screening, verdict}
+use Rattle.refusals.specs.Says.{Refuses}
 use Rattle.refusals.specs.declared.Refusal.{Refusal}
 use Rattle.examining.specs.declared.Screened.{Screened}
 use Rattle.examining.specs.declared.Screened.the-variants as screened
 use Rattle.examining.specs.declared.Opened.{Opened}
 use Rattle.examining.specs.declared.Opened.the-variants as opened
 use Rattle.examining.specs.Examining.{screenedAs, Stands, Opens, Examined}
-use Rattle.examining.specs.Laws.{passed-short, passed-verdict, screened-refused, opened-tree, opened-refused, table-refused, table-accepted, tree-words}
+use Rattle.examining.specs.Laws.{passed-short, passed-verdict, screened-refused, opened-tree, opened-refused, tabled, table-refused, table-accepted, tree-words}
 use Rattle.judging.specs.declared.Verdict.{Verdict}
 use Rattle.judging.specs.declared.Verdict.the-variants.{Accepted, Refused}
 use Rattle.judging.specs.Judging.{verdictOf}
@@ -43,8 +43,7 @@ judge-opened x t₀ t h e = opened-refused x t₀ t h e
 
 module _ {x t : List ℕ} {n : ℕ} {w : Walked} (s : Stands x t n) (h : Examined x t w) where
   -- a fault is below any bound up to that of all faults
-  pub judge-fault : (f : Refusal) (b : ℕ) → w .least < b → leb b noFault ≡ true → refusal f ≡ refused (ruleOf (w .least)) (placeIn (w .least))
-      → verdictOf (Refused f) ≡ parsed (read x)
+  pub judge-fault : (f : Refusal) (b : ℕ) → w .least < b → leb b noFault ≡ true → Refuses t (w .least) f → verdictOf (Refused f) ≡ parsed (read x)
   unfolding verdictOf
   judge-fault f b l k e = table-refused s h f (omega (arith, leb-true b noFault k)) e
 
@@ -52,6 +51,6 @@ module _ {x t : List ℕ} {n : ℕ} {w : Walked} (s : Stands x t n) (h : Examine
   unfolding verdictOf
   judge-none k = table-accepted s h k
 
-pub ruleset judges = (needs, passed-short, judge-passed, judge-screened, opened-tree, judge-opened, judge-fault, judge-none)
+pub ruleset judges = (needs, passed-short, judge-passed, judge-screened, opened-tree, judge-opened, tabled, judge-fault, judge-none)
 
 pub ruleset rooms = (needs, tree-words)

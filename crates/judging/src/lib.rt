@@ -31,7 +31,7 @@ fn judge_table(
     let walked = examining::examine(text, table, n, children, parents);
     let least = walked.least;
     if least < NO_FAULT {
-        return Verdict::Refused(refusals::refuse_fault(least));
+        return Verdict::Refused(refusals::refuse_fault(table, n, least));
     }
     let index = walked.index;
     Verdict::Accepted(index.count)

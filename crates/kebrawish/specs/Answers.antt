@@ -1,15 +1,25 @@
--- What the functions for C answer, in one word.
-use Prim.Native.Nat.{ℕ, _+_, _*_, _^_}
+-- What the functions for C answer: five numbers, of which those that do not apply are 0.
+use Prim.Native.Nat.{ℕ}
 use Rattle.verdict.specs.Verdict as verdict
 use Rattle.sheets.specs.Laid as laid
+use Rattle.kebrawish.specs.declared.KebrawishAnswer.{KebrawishAnswer}
 
--- what judge answers in one word: bits 56 to 63 the rule's number, 0 for acceptance; bits 0 to 31 the place of a refusal; bits 32 to 55 the object count
-unfoldable pub word : verdict.Verdict → ℕ
-word (verdict.accepted n) = n * 2 ^ 32
-word (verdict.refused rule place) = rule * 2 ^ 56 + place
+-- an acceptance: no rule, the sheet's length, and the object count
+unfoldable pub acceptance : ℕ → ℕ → KebrawishAnswer
+acceptance length objects = record { rule = 0; place = 0; end = 0; length = length; objects = objects }
 
--- what lay answers in one word: bits 56 to 63 the rule's number, 0 for acceptance; bits 0 to 31 the place of a refusal, or the sheet's length;
--- bits 32 to 55 the object count
-unfoldable pub laidWord : laid.Answer → ℕ
-laidWord (laid.laid size objects) = objects * 2 ^ 32 + size
-laidWord (laid.refused rule place) = rule * 2 ^ 56 + place
+-- a refusal: the rule's number, its place and its end
+unfoldable pub refusalOf : ℕ → ℕ → ℕ → KebrawishAnswer
+refusalOf rule place end = record { rule = rule; place = place; end = end; length = 0; objects = 0 }
+
+-- what judge answers, with no length
+unfoldable pub judgeAnswer : verdict.Verdict → KebrawishAnswer
+unfolding acceptance refusalOf
+judgeAnswer (verdict.accepted objects) = acceptance 0 objects
+judgeAnswer (verdict.refused rule place end) = refusalOf rule place end
+
+-- what lay answers
+unfoldable pub layAnswer : laid.Answer → KebrawishAnswer
+unfolding acceptance refusalOf
+layAnswer (laid.laid length objects) = acceptance length objects
+layAnswer (laid.refused rule place end) = refusalOf rule place end

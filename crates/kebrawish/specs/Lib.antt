@@ -1,3 +1,3 @@
--- What the functions for C answer, in one word.
+-- What the functions for C answer.
 pub mod Answers
 pub mod Says

@@ -1,5 +1,5 @@
-// The library's functions for C: judge and lay, each with its answer in one word.
-ghost use Prim.Native.Nat.{_+_, _*_, _^_, _<_};
+// The library's functions for C: judge and lay, each with its answer in a struct of five numbers.
+ghost use Prim.Native.Nat.{_^_, _<_};
 ghost use mathlib.Core.Path.{_≡_};
 ghost use lib.ListN.{length};
 ghost use Rattle.verdict.specs.Verdict.{verdict};
@@ -7,66 +7,88 @@ ghost use Rattle.refusals.specs.Refusals.{ruleNumber};
 ghost use Rattle.judging.specs.Judging.{verdictOf};
 ghost use Rattle.laying.specs.Laying.{answered};
 ghost use Rattle.sheets.specs.Laid.{answer, roomAfter};
-ghost use Rattle.kebrawish.specs.Answers.{word, laidWord};
+ghost use Rattle.kebrawish.specs.Answers.{acceptance, refusalOf, judgeAnswer, layAnswer};
 ghost use Rattle.kebrawish.specs.Says.{SmallVerdict, SmallAnswer};
 use judging::Verdict;
 use laying::Answer;
 use refusals::Refusal;
 
-// A rule and a place in one word.
-fn packed(rule: u32, place: usize) -> u64
-    requires { ⌜ (rule < 256) × (place < 2 ^ 32) ⌝ }
-    ensures { λ r. ⌜ r ≡ rule * 2 ^ 56 + place ⌝ }
-{
-    rule as u64 * 0x100_0000_0000_0000 + place as u64
+// What both functions answer; the header's `kebrawish_answer`. The numbers that do not apply are 0.
+#[repr(C)]
+pub struct KebrawishAnswer {
+    pub rule: u32,
+    pub place: u32,
+    pub end: u32,
+    pub length: u32,
+    pub objects: u32,
 }
 
-// A refusal in one word.
-fn refused_word(refusal: Refusal) -> u64
-    requires { ⌜ refusal .place < 2 ^ 32 ⌝ }
-    ensures { λ r. ⌜ r ≡ ruleNumber (refusal .rule) * 2 ^ 56 + refusal .place ⌝ }
+// An acceptance for C.
+fn accepted(length: usize, objects: usize) -> KebrawishAnswer
+    requires { ⌜ (length < 2 ^ 32) × (objects < 2 ^ 32) ⌝ }
+    ensures { λ r. ⌜ r ≡ acceptance length objects ⌝ }
+{
+    KebrawishAnswer {
+        rule: 0,
+        place: 0,
+        end: 0,
+        length: length as u32,
+        objects: objects as u32,
+    }
+}
+
+// A refusal for C.
+fn refused(refusal: Refusal) -> KebrawishAnswer
+    requires { ⌜ (refusal .place < 2 ^ 32) × (refusal .end < 2 ^ 32) ⌝ }
+    ensures { λ r. ⌜ r ≡ refusalOf (ruleNumber (refusal .rule)) (refusal .place) (refusal .end) ⌝ }
 {
     let rule = refusal.rule;
-    packed(refusals::number_of(rule), refusal.place)
+    KebrawishAnswer {
+        rule: refusals::number_of(rule),
+        place: refusal.place as u32,
+        end: refusal.end as u32,
+        length: 0,
+        objects: 0,
+    }
 }
 
-// A verdict in one word.
-fn verdict_word(verdict: Verdict) -> u64
+// A verdict for C.
+fn judged(verdict: Verdict) -> KebrawishAnswer
     requires { ⌜ SmallVerdict (verdictOf verdict) ⌝ }
-    ensures { λ r. ⌜ r ≡ word (verdictOf verdict) ⌝ }
+    ensures { λ r. ⌜ r ≡ judgeAnswer (verdictOf verdict) ⌝ }
 {
     match verdict {
-        Verdict::Accepted(n) => n as u64 * 0x1_0000_0000,
-        Verdict::Refused(refusal) => refused_word(refusal),
+        Verdict::Accepted(objects) => accepted(0, objects),
+        Verdict::Refused(refusal) => refused(refusal),
     }
 }
 
-// An answer of lay in one word.
-fn answer_word(answer: Answer) -> u64
+// An answer of lay for C.
+fn laid(answer: Answer) -> KebrawishAnswer
     requires { ⌜ SmallAnswer (answered answer) ⌝ }
-    ensures { λ r. ⌜ r ≡ laidWord (answered answer) ⌝ }
+    ensures { λ r. ⌜ r ≡ layAnswer (answered answer) ⌝ }
 {
     match answer {
-        Answer::Laid(size, objects) => objects as u64 * 0x1_0000_0000 + size as u64,
-        Answer::Refused(refusal) => refused_word(refusal),
+        Answer::Laid(length, objects) => accepted(length, objects),
+        Answer::Refused(refusal) => refused(refusal),
     }
 }
 
-// What judge answers, in one word.
+// Judges a text.
 #[no_mangle]
-pub extern "C" fn kebrawish_judge(text: &[u8]) -> u64
-    ensures { λ r. ⌜ r ≡ word (verdict (now (text .entry))) ⌝ }
+pub extern "C" fn kebrawish_judge(text: &[u8]) -> KebrawishAnswer
+    ensures { λ r. ⌜ r ≡ judgeAnswer (verdict (now (text .entry))) ⌝ }
 {
     let answer = judging::judge(text);
-    verdict_word(answer)
+    judged(answer)
 }
 
-// Lays out a text in the lent sheet, and answers in one word.
+// Lays out a text in the lent sheet.
 #[no_mangle]
-pub extern "C" fn kebrawish_lay(text: &[u8], sheet: &mut [u8]) -> u64
-    ensures { λ r. ⌜ r ≡ laidWord (answer (now (text .entry)) (length (now (sheet .entry)))) ⌝ }
+pub extern "C" fn kebrawish_lay(text: &[u8], sheet: &mut [u8]) -> KebrawishAnswer
+    ensures { λ r. ⌜ r ≡ layAnswer (answer (now (text .entry)) (length (now (sheet .entry)))) ⌝ }
     ensures { λ r. ⌜ now (sheet .exit) ≡ roomAfter (now (text .entry)) (length (now (sheet .entry))) ⌝ }
 {
     let answer = laying::lay(text, sheet);
-    answer_word(answer)
+    laid(answer)
 }

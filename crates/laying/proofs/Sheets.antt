@@ -9,7 +9,7 @@ use borrow.Author.Tests.{le-leb, lt-leb}
 use Rattle.json.specs.Tree.{Json}
 use Rattle.json.specs.Machine.{read, reads, treeIn, treeOf}
 use Rattle.everywhere.specs.Everywhere.{rule5, rule6}
-use Rattle.nodes.specs.Faults.{fault, least, noFault, ruleOf, placeIn}
+use Rattle.nodes.specs.Faults.{fault, least, noFault}
 use Rattle.fields.specs.Fields.{objectsOf}
 use Rattle.fields.specs.declared.Index.{Index}
 use Rattle.rules.specs.Schema.{cityJson}
@@ -32,6 +32,7 @@ use Rattle.nodes.specs.Unique.{unique}
 use Rattle.records.specs.Accepted.{text-fits}
 use Rattle.records.specs.Says.{Ready, SheetWrote}
 use Rattle.refusals.specs.Refusals.{ruleNumber, refusal}
+use Rattle.refusals.specs.Says.{Refuses}
 use Rattle.refusals.specs.declared.Broken.the-variants as broken
 use Rattle.refusals.specs.declared.Refusal.{Refusal}
 use Rattle.examining.specs.declared.Screened.{Screened}
@@ -39,7 +40,7 @@ use Rattle.examining.specs.declared.Screened.the-variants as screened
 use Rattle.examining.specs.declared.Opened.{Opened}
 use Rattle.examining.specs.declared.Opened.the-variants as opened
 use Rattle.examining.specs.Examining.{screenedAs, Stands, Opens, Examined, RowsOf}
-use Rattle.examining.specs.Laws.{passed-short, passed-verdict, screened-refused, opened-tree, opened-refused, table-refused, clean, index-offsets, lent-offsets, room-long, table-long, tree-words}
+use Rattle.examining.specs.Laws.{passed-short, passed-verdict, screened-refused, opened-tree, opened-refused, tabled, table-refused, clean, index-offsets, lent-offsets, room-long, table-long, tree-words}
 use Rattle.examining.specs.Least.{few-clean, judged-none}
 use Rattle.laying.specs.declared.Answer.the-variants as answers
 use Rattle.laying.specs.Laying.{answered, Zeroes, Clean, CleanBy, Lays}
@@ -56,8 +57,7 @@ pub refuses : {x d : List ℕ} {v : verdict.Verdict} (f : Refusal) → refusal f
 unfolding answered fitted filled Zeroes
 refuses f e z = record { gives = rw (← e); leaves = z }
 
-pub lay-refused : {x t d : List ℕ} {n : ℕ} {w : Walked} (f : Refusal) → Stands x t n → Examined x t w → w .least < noFault → refusal f ≡ verdict.refused (ruleOf (w .least)) (placeIn (w .least))
-    → Zeroes d
+pub lay-refused : {x t d : List ℕ} {n : ℕ} {w : Walked} (f : Refusal) → Stands x t n → Examined x t w → w .least < noFault → Refuses t (w .least) f → Zeroes d
     → Lays x (parsed (read x)) d d (answered (answers.Refused f))
 lay-refused f s h l e z = refuses f (table-refused s h f l e) z
 
@@ -141,7 +141,8 @@ module _ {x t offsets children parents : List ℕ} (d : Clean x t offsets childr
         let f : length (sheetOfText x) ≤ length d₀ = omega arith in
         record { gives = rw (accepted-as, le-leb _ _ f, a, e); leaves = rw a (b f) }
 
-    pub lay-no-room : {d₂ : List ℕ} → length d₁ < size → d₂ ≡ replicate (length d₁) 0 → Lays x (parsed (read x)) d₀ d₂ (answered (answers.Refused (record { rule = broken.NoRoom; place = 0 })))
+    pub lay-no-room : {d₂ : List ℕ} → length d₁ < size → d₂ ≡ replicate (length d₁) 0
+        → Lays x (parsed (read x)) d₀ d₂ (answered (answers.Refused (record { rule = broken.NoRoom; place = 0; end = 0 })))
     unfolding answered fitted filled ruleNumber
     lay-no-room l q =
         let (a, b) = wrote-all in
@@ -161,4 +162,4 @@ passed-lay {x} h e l = rw (passed-verdict x h e) l
 
 pub ruleset rooms = (needs, room-long, table-long, tree-words)
 
-pub ruleset lays = (needs, passed-short, screened-refused, opened-tree, lay-refused, open-refused, clean-of, clean-lent, clean-ready, lay-laid, lay-no-room)
+pub ruleset lays = (needs, passed-short, screened-refused, opened-tree, tabled, lay-refused, open-refused, clean-of, clean-lent, clean-ready, lay-laid, lay-no-room)

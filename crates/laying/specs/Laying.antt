@@ -20,7 +20,7 @@ use Rattle.laying.specs.declared.Answer.the-variants as answers
 unfoldable pub answered : Answer → laid.Answer
 unfolding ruleNumber
 answered (answers.Laid size objects) = laid.laid size objects
-answered (answers.Refused f) = laid.refused (ruleNumber (f .rule)) (f .place)
+answered (answers.Refused f) = laid.refused (ruleNumber (f .rule)) (f .place) (f .end)
 
 -- the sheet d is all zeroes
 unfoldable pub Zeroes : List ℕ → Type 0

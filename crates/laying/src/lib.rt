@@ -38,6 +38,7 @@ fn lay_sheet(
         return Answer::Refused(Refusal {
             rule: Broken::NoRoom,
             place: 0,
+            end: 0,
         });
     }
     Answer::Laid(size, offsets.len())
@@ -77,7 +78,7 @@ fn lay_table(
     let walked = examining::examine(text, table, n, children, parents);
     let fault = walked.least;
     if fault < NO_FAULT {
-        return Answer::Refused(refusals::refuse_fault(fault));
+        return Answer::Refused(refusals::refuse_fault(table, n, fault));
     }
     let index = walked.index;
     lay_index(text, table, index, children, parents, sheet)

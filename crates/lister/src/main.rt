@@ -1,4 +1,4 @@
-// Reads a text on standard input, lays it in a sheet of 65,536 bytes and prints one line, as `laid 78 bytes, objects 0` or `refused 8 at 0`.
+// Reads a text on standard input, lays it in a sheet of 65,536 bytes and prints one line, as `laid 78 bytes, objects 0` or `refused 8 at 0 to 2`.
 // The library `listing` has all of it but the calls of the system. Where reading or writing fails, standard error says why, and no line is printed.
 ghost use Rattle.io.specs.Counts.{Counts};
 use libc::STDIN_FILENO;
@@ -38,7 +38,7 @@ fn read(room: &mut [u8]) -> Input
 
 // Prints the line of a text.
 fn print(text: &[u8]) {
-    let mut line = [0u8; 64];
+    let mut line = [0u8; 80];
     let n = listing::list(text, &mut line);
     if !io::write_all(STDOUT_FILENO, &line[..n]) {
         os::fail(b"lister: standard output");

@@ -1,9 +1,10 @@
-// The sample readings (docs/TRACE.md) in the order of the paper's table, then `{}` and the kiosk: the line that the lister prints for each.
+// The sample readings (docs/TRACE.md) in the order of the paper's table, then `{"a":1,"a":2}`, `{}` and the kiosk: the line that the lister
+// prints for each.
 use libc::STDOUT_FILENO;
 
 // Prints the line of a text.
 fn show(text: &[u8]) {
-    let mut line = [0u8; 64];
+    let mut line = [0u8; 80];
     let n = listing::list(text, &mut line);
     io::write_all(STDOUT_FILENO, &line[..n]);
 }
@@ -76,6 +77,7 @@ fn main() {
     kinds();
     nested();
     minimal();
+    show(b"{\"a\":1,\"a\":2}");
     show(b"{}");
     kiosk();
 }

@@ -22,7 +22,7 @@ use Rattle.laying.specs.Laying.{answered}
 use Rattle.writer.specs.Writes.{Writes, Skips}
 use Rattle.writer.specs.Laws.{then, as-bytes}
 use Rattle.listing.specs.Line.{spelled, decimalDigits, lineOf}
-use Rattle.listing.specs.Says.{phrased, Spells, Phrases, Lists}
+use Rattle.listing.specs.Says.{Spells, Phrases, Lists}
 
 -- ---- bytes
 
@@ -120,21 +120,39 @@ spell n k ds l h f e w =
 pub phrase-of : {ws d₀ d₁ d : List ℕ} {n to q r : ℕ} → Writes ws d₀ d₁ to q → Spells n d₁ d q r → Phrases ws n d₀ d to r
 phrase-of f g = record { writes = then f (g .writes); short = g .short }
 
--- two of them, with words that are short enough for the room
-pub line-of : {a b : List ℕ} {m n : ℕ} {d₀ d₁ d₂ d : List ℕ} {p q r : ℕ} → length a + length b ≤ 23 → length d₀ ≡ 64
-    → Phrases a m d₀ d₁ 0 p → Phrases b n d₁ d₂ p q → Writes (10 ∷ []) d₂ d q r → Lists (phrased a m b n) d₀ d r
-unfolding phrased
-line-of {a} {b} {m} {n} {d₀} {r = r} fit room f g h =
-    let ws : List ℕ = a ++ decimalDigits m ++ b ++ decimalDigits n ++ (10 ∷ []) in
-    let all = as-bytes (ap (λ l. l ++ (10 ∷ [])) (sym (append-assoc (a ++ decimalDigits m) b (decimalDigits n)))) (then (then (f .writes) (g .writes)) h) in
-    let size : length ws ≡ length a + length (decimalDigits m) + length b + length (decimalDigits n) + 1 = simp length-append in
-    let short : length ws ≤ 64 = omega (arith, f .short, g .short) in
-    let ends : r ≡ length ws = omega (arith, all .ends) in
+-- after what was written from the start on
+say : {ws b d₀ d₁ d : List ℕ} {n p q : ℕ} → Writes ws d₀ d₁ 0 p → Phrases b n d₁ d p q → Writes (ws ++ b ++ decimalDigits n) d₀ d 0 q
+say {ws} {b} {n = n} f g = as-bytes (sym (append-assoc ws b (decimalDigits n))) (then f (g .writes))
+
+-- a line that is short enough for the room
+line-of : {ws d₀ d₁ d : List ℕ} {q r : ℕ} → length ws < 80 → length d₀ ≡ 80 → Writes ws d₀ d₁ 0 q → Writes (10 ∷ []) d₁ d q r → Lists (ws ++ (10 ∷ [])) d₀ d r
+line-of {ws} {d₀} {r = r} fit room f h =
+    let line : List ℕ = ws ++ (10 ∷ []) in
+    let all = then f h in
+    let size : length line ≡ length ws + 1 = length-append ws (10 ∷ []) in
+    let ends : r ≡ length line = omega (arith, all .ends) in
     record {
       size = ends;
-      bytes = all .wrote (omega arith) (omega arith) ∙ sets-eq ws d₀ 0 (omega arith) ∙ rw (zero-add, ends) refl;
+      bytes = all .wrote (omega arith) (omega arith) ∙ sets-eq line d₀ 0 (omega arith) ∙ rw (zero-add, ends) refl;
       within = omega (arith, all .room);
     }
+
+module _ {a b : List ℕ} {m n : ℕ} {d₀ d₁ d₂ : List ℕ} {p q : ℕ} where
+  -- of two phrases
+  pub two-phrases : {d : List ℕ} {r : ℕ} → length a + length b < 40 → length d₀ ≡ 80 → Phrases a m d₀ d₁ 0 p → Phrases b n d₁ d₂ p q → Writes (10 ∷ []) d₂ d q r
+      → Lists (a ++ decimalDigits m ++ b ++ decimalDigits n ++ (10 ∷ [])) d₀ d r
+  two-phrases fit room f g h =
+      let ws : List ℕ = a ++ decimalDigits m ++ b ++ decimalDigits n in
+      let size : length ws ≡ length a + length (decimalDigits m) + length b + length (decimalDigits n) = simp length-append in
+      line-of (omega (arith, f .short, g .short)) room (say (f .writes) g) h
+
+  -- of three
+  pub three-phrases : {c d₃ d : List ℕ} {o r s : ℕ} → length a + length b + length c < 20 → length d₀ ≡ 80 → Phrases a m d₀ d₁ 0 p → Phrases b n d₁ d₂ p q
+      → Phrases c o d₂ d₃ q s → Writes (10 ∷ []) d₃ d s r → Lists (a ++ decimalDigits m ++ b ++ decimalDigits n ++ c ++ decimalDigits o ++ (10 ∷ [])) d₀ d r
+  three-phrases {c} {o = o} fit room f g k h =
+      let ws : List ℕ = a ++ decimalDigits m ++ b ++ decimalDigits n ++ c ++ decimalDigits o in
+      let size : length ws ≡ length a + length (decimalDigits m) + length b + length (decimalDigits n) + length c + length (decimalDigits o) = simp length-append in
+      line-of (omega (arith, f .short, g .short, k .short)) room (say (say (f .writes) g) k) h
 
 -- ---- answers
 
@@ -143,7 +161,7 @@ module _ {a : Answer} {d₀ d : List ℕ} {r : ℕ} where
   unfolding answered
   line-laid e l = rw e l
 
-  pub line-refused : {f : Refusal} {k : ℕ} → a ≡ Refused f → k ≡ ruleNumber (f .rule) → Lists (lineOf (refused k (f .place))) d₀ d r → Lists (lineOf (answered a)) d₀ d r
+  pub line-refused : {f : Refusal} {k : ℕ} → a ≡ Refused f → k ≡ ruleNumber (f .rule) → Lists (lineOf (refused k (f .place) (f .end))) d₀ d r → Lists (lineOf (answered a)) d₀ d r
   unfolding answered
   line-refused e q l = rw (e, ← q) l
 
@@ -154,4 +172,4 @@ listed x a {d₀} {d} {r} e l =
     let m = rw e at l in
     (m .size, (m .bytes, (m .within, sym (length-take-le r d (m .within)))))
 
-pub ruleset lists = (needs, put-start, put-turn, put-all, put-none, spell, phrase-of, line-of, line-laid, line-refused)
+pub ruleset lists = (needs, put-start, put-turn, put-all, put-none, spell, phrase-of, two-phrases, three-phrases, line-laid, line-refused)

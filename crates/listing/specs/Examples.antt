@@ -18,12 +18,17 @@ unfolding lineOf ended
 minimal = refl
 
 -- for `{}`
-empty-object : lineOf (refused 8 0) ≡ ended "refused 8 at 0"
+empty-object : lineOf (refused 8 0 2) ≡ ended "refused 8 at 0 to 2"
 unfolding lineOf ended
 empty-object = refl
 
+-- for `{"a":1,"a":2}`
+repeated-name : lineOf (refused 6 7 10) ≡ ended "refused 6 at 7 to 10"
+unfolding lineOf ended
+repeated-name = refl
+
 -- for a text that is too long
-too-long : lineOf (refused 1 65535) ≡ ended "refused 1 at 65535"
+too-long : lineOf (refused 1 65535 65535) ≡ ended "refused 1 at 65535 to 65535"
 unfolding lineOf ended
 too-long = refl
 

@@ -16,8 +16,10 @@ unfoldable pub decimalDigits : ℕ → List ℕ
 unfolding spelled
 decimalDigits n = spelled n n
 
--- "prints exactly `laid 78 bytes, objects 0` and a line feed; for `{}` it prints `refused 8 at 0`"
+-- "prints exactly `laid 78 bytes, objects 0` and a line feed"; with the end of a refusal, "`refused 6 at 7 to 10` for `{"a":1,"a":2}` and
+-- `refused 8 at 0 to 2` for `{}`"
 unfoldable pub lineOf : Answer → List ℕ
 unfolding ascii decimalDigits
 lineOf (laid size objects) = ascii "laid " ++ decimalDigits size ++ ascii " bytes, objects " ++ decimalDigits objects ++ (10 ∷ [])
-lineOf (refused rule place) = ascii "refused " ++ decimalDigits rule ++ ascii " at " ++ decimalDigits place ++ (10 ∷ [])
+lineOf (refused rule place end) =
+    ascii "refused " ++ decimalDigits rule ++ ascii " at " ++ decimalDigits place ++ ascii " to " ++ decimalDigits end ++ (10 ∷ [])

@@ -1,7 +1,7 @@
 -- What the functions that write a line tell.
 use Prim.Native.Nat.{ℕ, _≤_}
 use mathlib.Core.Path.{_≡_}
-use mathlib.Core.List.{List, [], _∷_, _++_}
+use mathlib.Core.List.{List, _++_}
 use lib.ListN.{length, drop}
 use Rattle.writer.specs.Writes.{Writes}
 use Rattle.listing.specs.Line.{decimalDigits}
@@ -15,10 +15,6 @@ pub record Spells (n : ℕ) (d₀ d : List ℕ) (to r : ℕ) : Type 0 where
 pub record Phrases (words : List ℕ) (n : ℕ) (d₀ d : List ℕ) (to r : ℕ) : Type 0 where
   pub writes : Writes (words ++ decimalDigits n) d₀ d to r
   pub short : length (decimalDigits n) ≤ 20
-
--- two numbers, each after some words, and a line feed
-unfoldable pub phrased : List ℕ → ℕ → List ℕ → ℕ → List ℕ
-phrased first m second n = first ++ decimalDigits m ++ second ++ decimalDigits n ++ (10 ∷ [])
 
 -- the room was d₀ and is d: the line ws, of r bytes, and after it what was there
 pub record Lists (ws d₀ d : List ℕ) (r : ℕ) : Type 0 where

@@ -1,2 +1,3 @@
--- The rules of docs/RULES.md and their numbers.
+-- The rules of docs/RULES.md and their numbers, and what the refusal of a fault tells.
 pub mod Refusals
+pub mod Says

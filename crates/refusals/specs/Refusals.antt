@@ -28,4 +28,4 @@ ruleNumber broken.NoRoom = 18
 
 -- a refusal as the verdict that it is
 abbrev pub refusal : Refusal → verdict.Verdict
-refusal f = verdict.refused (ruleNumber (f .rule)) (f .place)
+refusal f = verdict.refused (ruleNumber (f .rule)) (f .place) (f .end)

@@ -1,9 +1,9 @@
-// Refusals: the rules of docs/RULES.md with their numbers, and the refusal of a fault.
-ghost use Prim.Native.Nat.{_*_, _/_, _%_, _≤_, _<_};
+// Refusals: the rules of docs/RULES.md with their numbers, and the refusal of a fault, with its end.
+ghost use Prim.Native.Nat.{_*_, _≤_, _<_};
 ghost use mathlib.Core.Path.{_≡_};
-ghost use Rattle.nodes.specs.Faults.{noFault, ruleOf, placeIn};
-ghost use Rattle.verdict.specs.Verdict.{refused};
-ghost use Rattle.refusals.specs.Refusals.{ruleNumber, refusal};
+ghost use Rattle.nodes.specs.Faults.{noFault};
+ghost use Rattle.refusals.specs.Refusals.{ruleNumber};
+ghost use Rattle.refusals.specs.Says.{Tabled, EndsAt, Ended, Refuses};
 
 // The rules that a text can break.
 pub enum Broken {
@@ -27,10 +27,11 @@ pub enum Broken {
     NoRoom,
 }
 
-// A refusal: the broken rule and its place.
+// A refusal: the broken rule, its place, and its end.
 pub struct Refusal {
     pub rule: Broken,
     pub place: usize,
+    pub end: usize,
 }
 
 // The rule of a number from 5 to 17.
@@ -55,14 +56,43 @@ fn rule_of(number: u32) -> Broken
     }
 }
 
-// The refusal of a fault.
-pub fn refuse_fault(fault: u32) -> Refusal
-    requires { ⌜ (5 * 65536 ≤ fault) × (fault < noFault) ⌝ }
-    ensures { λ r. ⌜ refusal r ≡ refused (ruleOf fault) (placeIn fault) ⌝ }
+// The end of the value or name that begins at a place, or the place itself if none does: one pass over the node table,
+// whose first n words are a tree's.
+fn end_at(table: &[u32], n: usize, place: u32) -> u32
+    requires { ⌜ Tabled (now table) n ⌝ }
+    ensures { λ r. ⌜ EndsAt (now (table .entry)) place r ⌝ }
+{
+    let mut i = 0;
+    while i < n {
+        if table[i] == place {
+            return table[i + 1];
+        }
+        i += 3;
+    }
+    place
+}
+
+// The end of a fault of the tree. That of rule 5 is its place.
+fn end_of(table: &[u32], n: usize, fault: u32) -> u32
+    requires { ⌜ Tabled (now table) n ⌝ }
+    ensures { λ r. ⌜ Ended (now (table .entry)) fault r ⌝ }
+{
+    let place = fault % 65536;
+    if fault < 393216 {
+        return place;
+    }
+    end_at(table, n, place)
+}
+
+// The refusal of a fault of the tree whose words are the first n of the table.
+pub fn refuse_fault(table: &[u32], n: usize, fault: u32) -> Refusal
+    requires { ⌜ (Tabled (now table) n) × (5 * 65536 ≤ fault) × (fault < noFault) ⌝ }
+    ensures { λ r. ⌜ Refuses (now (table .entry)) fault r ⌝ }
 {
     Refusal {
         rule: rule_of(fault / 65536),
         place: (fault % 65536) as usize,
+        end: end_of(table, n, fault) as usize,
     }
 }
 

@@ -18,7 +18,7 @@ use Rattle.everywhere.specs.Everywhere.{rule5, rule6}
 use Rattle.fields.specs.Fields.{objectsOf}
 use Rattle.rules.specs.Schema.{cityJson}
 use Rattle.rules.specs.Links.{linkFaults}
-use Rattle.verdict.specs.Verdict.{Verdict, accepted, faults, given, judged, parsed, screening, verdict}
+use Rattle.verdict.specs.Verdict.{Verdict, accepted, faults, endOfFault, given, judged, parsed, screening, verdict}
 use Rattle.verdict.specs.Verdict as judge
 use Rattle.verdict.specs.Exact.{Clean, accepted-clean}
 use Rattle.model.specs.Good.{GoodModel}
@@ -65,14 +65,14 @@ module _ (x : List ℕ) (n : ℕ) (e : verdict x ≡ accepted n) where
 -- ---- texts that were laid
 
 -- an answer that is an acceptance or else a refusal
-laid-if : (b : Bool) (s k l n p : ℕ) → cond b (laid s k) (refused 18 p) ≡ laid l n → (b ≡ true) × (s ≡ l) × (k ≡ n)
-laid-if true s k l n p e = (refl, cc, cc)
-laid-if false s k l n p e = (cc, cc, cc)
+laid-if : (b : Bool) (s k l n p q : ℕ) → cond b (laid s k) (refused 18 p q) ≡ laid l n → (b ≡ true) × (s ≡ l) × (k ≡ n)
+laid-if true s k l n p q e = (refl, cc, cc)
+laid-if false s k l n p q e = (cc, cc, cc)
 
 -- the same of a refusal
-refused-if : (b : Bool) (s k p q : ℕ) → cond b (laid s k) (refused 18 p) ≡ refused 18 q → b ≡ false
-refused-if true s k p q e = cc
-refused-if false s k p q e = refl
+refused-if : (b : Bool) (s k p q u w : ℕ) → cond b (laid s k) (refused 18 p q) ≡ refused 18 u w → b ≡ false
+refused-if true s k p q u w e = cc
+refused-if false s k p q u w e = refl
 
 -- what an acceptance tells
 pub record Laid (x : List ℕ) (r l n : ℕ) : Type 0 where
@@ -87,9 +87,9 @@ of-laid x r l n e = by (verdict x) refl e
   where
     by : (o : Verdict) → verdict x ≡ o → fitted x r o ≡ laid l n → Laid x r l n
     by (judge.accepted k) q d =
-        let (t, z, w) = laid-if _ _ _ _ _ _ d in
+        let (t, z, w) = laid-if _ _ _ _ _ _ _ d in
         record { accepted = q ∙ ap accepted w; size = sym z; fits = omega (arith, leb-true _ r t) }
-    by (judge.refused s p) q d = clash cc
+    by (judge.refused s p c) q d = clash cc
 
 -- the room then holds the sheet, and zeros after it
 pub holds-sheet : (x : List ℕ) (r l n : ℕ) → answer x r ≡ laid l n → roomAfter x r ≡ sheetOfText x ++ replicate (r - l) 0
@@ -101,9 +101,9 @@ pub begins-sheet : (x : List ℕ) (r l n : ℕ) → answer x r ≡ laid l n → 
 begins-sheet x r l n e = ap (take l) (holds-sheet x r l n e) ∙ take-at (sheetOfText x) (replicate (r - l) 0) l (sym (of-laid x r l n e .size))
 
 -- or zeros
-pub holds-zeros : (x : List ℕ) (r s p : ℕ) → answer x r ≡ refused s p → roomAfter x r ≡ replicate r 0
+pub holds-zeros : (x : List ℕ) (r s p c : ℕ) → answer x r ≡ refused s p c → roomAfter x r ≡ replicate r 0
 unfolding roomAfter filled
-holds-zeros x r s p e = ap (filled x r) e
+holds-zeros x r s p c e = ap (filled x r) e
 
 -- every room keeps its length
 pub room-length : (x : List ℕ) (r : ℕ) → length (roomAfter x r) ≡ r
@@ -114,7 +114,7 @@ room-length x r = by (answer x r) refl
         let q = of-laid x r l n e in
         omega
         (arith, ap length (holds-sheet x r l n e), length-append (sheetOfText x) (replicate (r - l) 0), length-replicate {A = ℕ} (r - l) 0, q .size, q .fits)
-    by (refused s p) e = ap length (holds-zeros x r s p e) ∙ length-replicate r 0
+    by (refused s p c) e = ap length (holds-zeros x r s p c e) ∙ length-replicate r 0
 
 -- accepted texts with the same sheet and the same object count have the same answers and leave the same bytes
 module _ (x y : List ℕ) (n r : ℕ) (s : sheetOfText x ≡ sheetOfText y) (e : verdict x ≡ accepted n) (f : verdict y ≡ accepted n) where
@@ -127,7 +127,7 @@ module _ (x y : List ℕ) (n r : ℕ) (s : sheetOfText x ≡ sheetOfText y) (e :
   same-filled : (a : Answer) → filled x r a ≡ filled y r a
   unfolding filled
   same-filled (laid l k) = ap (λ t. t ++ replicate (r - l) 0) s
-  same-filled (refused k p) = refl
+  same-filled (refused k p c) = refl
 
   -- the same bytes
   pub same-room : roomAfter x r ≡ roomAfter y r
@@ -139,21 +139,21 @@ module _ (x y : List ℕ) (n r : ℕ) (s : sheetOfText x ≡ sheetOfText y) (e :
 -- a refusal by a rule below 18
 Low : Verdict → Type 0
 Low (judge.accepted n) = Unit {0}
-Low (judge.refused r p) = r < 18
+Low (judge.refused r p e) = r < 18
 
 -- a tree's verdict
-given-low : (n f : ℕ) → Low (given n f)
+given-low : (v : Json) (f : ℕ) → Low (given v f)
 unfolding given Low ruleOf
-given-low n f = by (ltb f noFault) refl
+given-low v f = by (ltb f noFault) refl
   where
-    by : (b : Bool) → ltb f noFault ≡ b → Low (cond b (judge.refused (ruleOf f) (placeIn f)) (accepted n))
+    by : (b : Bool) → ltb f noFault ≡ b → Low (cond b (judge.refused (ruleOf f) (placeIn f) (endOfFault v f)) (accepted (length (objectsOf v))))
     by true e = omega (arith, ltb-true f noFault e)
     by false e = tt
 
 -- a parsed text's
 parsed-low : (o : Outcome) → Low (parsed o)
 unfolding parsed judged Low
-parsed-low (reads v) = given-low (length (objectsOf v)) (least noFault (faults v))
+parsed-low (reads v) = given-low v (least noFault (faults v))
 parsed-low (bad n) = omega arith
 parsed-low (tooDeep n) = omega arith
 
@@ -163,21 +163,22 @@ unfolding verdict screening Low
 verdict-low x = by (ltb 65535 (length x)) (ltb (wholeLength x) (length x))
   where
     by : (a b : Bool)
-        → Low (elim (cond a (some (judge.refused 1 65535)) (cond b (some (judge.refused 2 (wholeLength x))) none)) [ some v ↦ v | none ↦ parsed (read x) ])
+        → Low (elim (cond a (some (judge.refused 1 65535 65535)) (cond b (some (judge.refused 2 (wholeLength x) (wholeLength x))) none))
+        [ some v ↦ v | none ↦ parsed (read x) ])
     by true b = omega arith
     by false true = omega arith
     by false false = parsed-low (read x)
 
 -- where 18 is answered, at any place, the text is accepted and its sheet is longer than the room
-pub too-long : (x : List ℕ) (r : ℕ) {p : ℕ} → answer x r ≡ refused 18 p → ((n : ℕ) × (verdict x ≡ accepted n)) × (r < length (sheetOfText x))
+pub too-long : (x : List ℕ) (r : ℕ) {p c : ℕ} → answer x r ≡ refused 18 p c → ((n : ℕ) × (verdict x ≡ accepted n)) × (r < length (sheetOfText x))
 unfolding answer fitted Low
-too-long x r {p} e = by (verdict x) refl e
+too-long x r {p} {c} e = by (verdict x) refl e
   where
-    by : (o : Verdict) → verdict x ≡ o → fitted x r o ≡ refused 18 p → ((n : ℕ) × (verdict x ≡ accepted n)) × (r < length (sheetOfText x))
-    by (judge.accepted k) q d = ((k, q), leb-false _ r (refused-if _ _ _ _ _ d))
-    by (judge.refused s t) q d = let z : s ≡ 18 = cc in absurd (omega (arith, subst Low q (verdict-low x)))
+    by : (o : Verdict) → verdict x ≡ o → fitted x r o ≡ refused 18 p c → ((n : ℕ) × (verdict x ≡ accepted n)) × (r < length (sheetOfText x))
+    by (judge.accepted k) q d = ((k, q), leb-false _ r (refused-if _ _ _ _ _ _ _ d))
+    by (judge.refused s t u) q d = let z : s ≡ 18 = cc in absurd (omega (arith, subst Low q (verdict-low x)))
 
 -- and the other way round
-pub does-not-fit : (x : List ℕ) (r n : ℕ) → verdict x ≡ accepted n → r < length (sheetOfText x) → answer x r ≡ refused 18 0
+pub does-not-fit : (x : List ℕ) (r n : ℕ) → verdict x ≡ accepted n → r < length (sheetOfText x) → answer x r ≡ refused 18 0 0
 unfolding answer fitted
 does-not-fit x r n e h = rw (e, lt-leb (length (sheetOfText x)) r h)

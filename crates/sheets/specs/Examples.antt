@@ -44,7 +44,7 @@ unfolding lays minimal
 minimal-fits = refl
 
 -- one byte short
-minimal-short : lays minimal 77 ≡ refused 18 0
+minimal-short : lays minimal 77 ≡ refused 18 0 0
 unfolding lays minimal
 minimal-short = refl
 

@@ -22,13 +22,13 @@ sheetOfText text = sheetOf (modelOfText text)
 -- "Acceptance gives the sheet's length (lay only) and the object count"; a refusal is as judge's
 pub data Answer : Type 0 where
   laid : (size objects : ℕ) → Answer
-  refused : (rule place : ℕ) → Answer
+  refused : (rule place end : ℕ) → Answer
 
--- "Lay answers as judge does, save for refusal 18": "sheet longer than the lent room (lay only)" at "0"
+-- "Lay answers as judge does, save for refusal 18": "sheet longer than the lent room (lay only)" at "0", and its end is "the place itself"
 unfoldable pub fitted : List ℕ → ℕ → Verdict → Answer
 unfolding sheetOfText
-fitted text room (judge.accepted n) = cond (leb (length (sheetOfText text)) room) (laid (length (sheetOfText text)) n) (refused 18 0)
-fitted text room (judge.refused r p) = refused r p
+fitted text room (judge.accepted n) = cond (leb (length (sheetOfText text)) room) (laid (length (sheetOfText text)) n) (refused 18 0 0)
+fitted text room (judge.refused r p e) = refused r p e
 
 -- "lay (text and a lent sheet)": what it answers
 unfoldable pub answer : List ℕ → ℕ → Answer
@@ -39,7 +39,7 @@ answer text room = fitted text room (verdict text)
 unfoldable pub filled : List ℕ → ℕ → Answer → List ℕ
 unfolding sheetOfText
 filled text room (laid size objects) = sheetOfText text ++ replicate (room - size) 0
-filled text room (refused rule place) = replicate room 0
+filled text room (refused rule place end) = replicate room 0
 
 -- "A lent sheet may have any length": the room is any number of bytes
 unfoldable pub roomAfter : List ℕ → ℕ → List ℕ

@@ -17,7 +17,7 @@ use Rattle.nodes.specs.Access.{members}
 use Rattle.everywhere.specs.Everywhere.{strings}
 use Rattle.verdict.specs.Verdict.{Verdict, accepted, verdict}
 use Rattle.verdict.specs.Verdict as judge
-use Rattle.verdict.specs.Exact.{BreaksNone, Least, accepts, accepted-exactly, refused-exactly}
+use Rattle.verdict.specs.Exact.{BreaksNone, Least, accepts, accepted-exactly, refused-exactly, ends-inside}
 use Rattle.model.specs.Model.{sheetOf}
 use Rattle.model.specs.Good.{GoodModel}
 use Rattle.model.specs.Read.{get, objectOf, modelOf}
@@ -74,7 +74,7 @@ pub sheet-then-zeros : (x : List ℕ) (r l n : ℕ) → answer x r ≡ laid l n 
 sheet-then-zeros = holds-sheet
 
 -- a refusal leaves zeros
-pub all-zeros : (x : List ℕ) (r s p : ℕ) → answer x r ≡ refused s p → roomAfter x r ≡ replicate r 0
+pub all-zeros : (x : List ℕ) (r s p c : ℕ) → answer x r ≡ refused s p c → roomAfter x r ≡ replicate r 0
 all-zeros = holds-zeros
 
 -- and the room keeps its length
@@ -82,7 +82,7 @@ pub room : (x : List ℕ) (r : ℕ) → length (roomAfter x r) ≡ r
 room = room-length
 
 -- 18 is answered exactly if the text is accepted and its sheet is longer than the room
-pub eighteen : (x : List ℕ) (r : ℕ) → (answer x r ≡ refused 18 0) ↔ (((n : ℕ) × (verdict x ≡ accepted n)) × (r < length (sheetOfText x)))
+pub eighteen : (x : List ℕ) (r : ℕ) → (answer x r ≡ refused 18 0 0) ↔ (((n : ℕ) × (verdict x ≡ accepted n)) × (r < length (sheetOfText x)))
 eighteen x r = (too-long x r, (λ ((n, e), h). does-not-fit x r n e h))
 
 -- promise 2 for lay: a text is laid exactly if it breaks no rule and its sheet fits, and the answer is the sheet's length and the object count
@@ -98,27 +98,43 @@ laid-exactly x r l n = (
       rw (e, le-leb (length (sheetOfText x)) r (omega arith)) (λ i. laid (size i) (objects i))),
 )
 
--- the text breaks no rule and its sheet is longer than the room: 18 at 0
-abbrev pub NoRoom : List ℕ → ℕ → ℕ → ℕ → Type 0
-NoRoom x r s p = (s ≡ 18) × (p ≡ 0) × BreaksNone x × (r < length (sheetOfText x))
+-- the text breaks no rule and its sheet is longer than the room: 18 at 0, to 0
+abbrev pub NoRoom : List ℕ → ℕ → ℕ → ℕ → ℕ → Type 0
+NoRoom x r s p e = (s ≡ 18) × (p ≡ 0) × (e ≡ 0) × BreaksNone x × (r < length (sheetOfText x))
 
--- and is refused exactly by the lowest broken rule at its earliest place, or by 18 at 0 where only the room is too short
-pub refused-lowest : (x : List ℕ) (r s p : ℕ) → (answer x r ≡ refused s p) ↔ (Least x s p ⊎ NoRoom x r s p)
+-- and is refused exactly by the lowest broken rule at its earliest place, with the end of that place, or by 18 at 0 where only the room is too short
+pub refused-lowest : (x : List ℕ) (r s p e : ℕ) → (answer x r ≡ refused s p e) ↔ (Least x s p e ⊎ NoRoom x r s p e)
 unfolding answer fitted
-refused-lowest x r s p = ((λ e. to (verdict x) refl e), from)
+refused-lowest x r s p e = ((λ z. to (verdict x) refl z), from)
   where
     to-room : (k : ℕ) (b : Bool) → verdict x ≡ accepted k → leb (length (sheetOfText x)) r ≡ b
-        → cond b (laid (length (sheetOfText x)) k) (refused 18 0) ≡ refused s p → NoRoom x r s p
+        → cond b (laid (length (sheetOfText x)) k) (refused 18 0 0) ≡ refused s p e → NoRoom x r s p e
     to-room k true q h c = clash cc
-    to-room k false q h c = let a : s ≡ 18 = cc in let b : p ≡ 0 = cc in (a, b, accepted-exactly x k .0 q .0, leb-false _ r h)
+    to-room k false q h c =
+        let a : s ≡ 18 = cc in
+        let b : p ≡ 0 = cc in
+        let d : e ≡ 0 = cc in
+        (a, b, d, accepted-exactly x k .0 q .0, leb-false _ r h)
 
-    to : (o : Verdict) → verdict x ≡ o → fitted x r o ≡ refused s p → Least x s p ⊎ NoRoom x r s p
+    to : (o : Verdict) → verdict x ≡ o → fitted x r o ≡ refused s p e → Least x s p e ⊎ NoRoom x r s p e
     to (judge.accepted k) q d = inr (to-room k (leb (length (sheetOfText x)) r) q refl d)
-    to (judge.refused t u) q d = let a : t ≡ s = cc in let b : u ≡ p = cc in inl (refused-exactly x s p .0 (rw (a, b) at q))
+    to (judge.refused t u v) q d =
+        let a : t ≡ s = cc in
+        let b : u ≡ p = cc in
+        let c : v ≡ e = cc in
+        inl (refused-exactly x s p e .0 (rw (a, b, c) at q))
 
-    from : Least x s p ⊎ NoRoom x r s p → answer x r ≡ refused s p
-    from (inl a) = rw (refused-exactly x s p .1 a)
-    from (inr h) = rw (h .0, h .1) (eighteen x r .1 (accepts x (h .2), h .3))
+    from : Least x s p e ⊎ NoRoom x r s p e → answer x r ≡ refused s p e
+    from (inl a) = rw (refused-exactly x s p e .1 a)
+    from (inr h) = rw (h .0, h .1, h .2) (eighteen x r .1 (accepts x (h .3), h .4))
+
+-- the place of a refusal is no later than its end, and that is no later than the text's
+pub refused-inside : (x : List ℕ) (r s p e : ℕ) → answer x r ≡ refused s p e → (p ≤ e) × (e ≤ length x)
+refused-inside x r s p e z = of (refused-lowest x r s p e .0 z)
+  where
+    of : Least x s p e ⊎ NoRoom x r s p e → (p ≤ e) × (e ≤ length x)
+    of (inl a) = ends-inside x s p e (refused-exactly x s p e .1 a)
+    of (inr h) = (omega (arith, h .1), omega (arith, h .2))
 
 -- alike texts have the same model and the same sheet
 pub alike : (x y : List ℕ) → Alike (treeOf x) (treeOf y) → (modelOfText x ≡ modelOfText y) × (sheetOfText x ≡ sheetOfText y)

@@ -21,8 +21,11 @@ use Rattle.nodes.specs.Laws.{least-le}
 use Rattle.fields.specs.Fields.{objectsOf}
 use Rattle.model.specs.Code.{All}
 use Rattle.model.specs.Lists.{one-of}
-use Rattle.verdict.specs.Verdict.{Verdict, accepted, refused, faults, given, judged, parsed, verdict}
-use Rattle.verdict.specs.Places.{Small, Placed, faults-small}
+use Rattle.everywhere.specs.Parts.{parts}
+use Rattle.verdict.specs.Ends.{endsAt}
+use Rattle.verdict.specs.EndLaws.{Alone, alone-end, alone-within}
+use Rattle.verdict.specs.Verdict.{Verdict, accepted, refused, faults, endOfFault, given, judged, parsed, verdict}
+use Rattle.verdict.specs.Places.{Small, Placed, Stood, within, single, faults-small, faults-stand}
 
 -- rules 3 and 4: "let n be the longest prefix that begins some JSON text and never has more than 32 levels open"
 pub record Longest (x : List ℕ) (n : ℕ) : Type 0 where
@@ -40,6 +43,12 @@ pub data Breaks (x : List ℕ) : ℕ → ℕ → Type 0 where
   incomplete : {n : ℕ} → Longest x n → n ≡ length x → ((v : Json) → Text 32 x v → ⊥) → Breaks x 3 n
   too-deep : {n l : ℕ} → Longest x n → n < length x → Begins l (take (n + 1) x) → Breaks x 4 n
   in-tree : {r p : ℕ} (v : Json) → length x ≤ 65535 → Text 32 x v → p < 65536 → List·Memᴰ (fault r p) (faults v) → Breaks x r p
+
+-- the end of a refusal by the rule at the place: "the place itself for 1 to 5", else "one past the last byte of the value or name at that place",
+-- of which there is exactly one
+pub data Ends (x : List ℕ) (r p : ℕ) : ℕ → Type 0 where
+  itself : r < 6 → Ends x r p p
+  part : {e : ℕ} (v : Json) → 6 ≤ r → Text 32 x v → Alone p (parts v) e → Ends x r p e
 
 abbrev pub BreaksNone : List ℕ → Type 0
 BreaksNone x = (r p : ℕ) → Breaks x r p → ⊥
@@ -67,11 +76,11 @@ least-in b (f ∷ fs) = by (least-in (min b f) fs) (decLt f b)
 
 -- ---- a text by its cases
 
-pub verdict-long : (x : List ℕ) → 65535 < length x → verdict x ≡ refused 1 65535
+pub verdict-long : (x : List ℕ) → 65535 < length x → verdict x ≡ refused 1 65535 65535
 unfolding verdict
 verdict-long x h = rw (lt-ltb 65535 (length x) h, verdict)
 
-pub verdict-odd : (x : List ℕ) → length x ≤ 65535 → wholeLength x < length x → verdict x ≡ refused 2 (wholeLength x)
+pub verdict-odd : (x : List ℕ) → length x ≤ 65535 → wholeLength x < length x → verdict x ≡ refused 2 (wholeLength x) (wholeLength x)
 unfolding verdict
 verdict-odd x h k = rw (le-ltb 65535 (length x) h, lt-ltb (wholeLength x) (length x) k, verdict)
 
@@ -108,8 +117,11 @@ bad-breaks x p e = by (stopped x p (inl e)) (decLt p (length x))
 -- ---- rules 5 to 17
 
 -- the tree of a text that is not too long stands in the first bytes
+placed-in : (x : List ℕ) (v : Json) → length x ≤ 65535 → Text 32 x v → (d : Placed v) × (d .to ≤ length x)
+placed-in x v h t = let (p, q, s, k) = ordered 32 x v t in (record { from = p; to = q; spans = s; before = omega arith }, k)
+
 pub in-text : (x : List ℕ) (v : Json) → length x ≤ 65535 → read x ≡ reads v → Placed v
-in-text x v h e = let (p, q, s, k) = ordered 32 x v (read-text x v .0 e) in record { from = p; to = q; spans = s; before = omega arith }
+in-text x v h e = placed-in x v h (read-text x v .0 e) .0
 
 -- a fault in such a tree
 module _ (x : List ℕ) (v : Json) (s q : ℕ) (h : length x ≤ 65535) (d : Text 32 x v) (k : q < 65536) (m : List·Memᴰ (fault s q) (faults v)) where
@@ -183,14 +195,15 @@ pub record Clean (x : List ℕ) (n : ℕ) : Type 0 where
   pub clean : faults value ≡ []
   pub count : n ≡ length (objectsOf value)
 
--- a text that is refused: it breaks the rule at the place, and none lower or earlier
-pub record Least (x : List ℕ) (r p : ℕ) : Type 0 where
+-- a text that is refused: it breaks the rule at the place, and none lower or earlier, and the end belongs to them
+pub record Least (x : List ℕ) (r p e : ℕ) : Type 0 where
   pub broken : Breaks x r p
   pub least : (s q : ℕ) → Breaks x s q → NoLater r p s q
+  pub ends : Ends x r p e
 
 data Case (x : List ℕ) : Verdict → Type 0 where
   clean : {n : ℕ} → Clean x n → Case x (accepted n)
-  broken : {r p : ℕ} → Least x r p → Case x (refused r p)
+  broken : {r p e : ℕ} → Least x r p e → Case x (refused r p e)
 
 -- the least fault of a tree is one
 split : (f : ℕ) → fault (ruleOf f) (placeIn f) ≡ f
@@ -201,27 +214,35 @@ breaks : (x : List ℕ) (v : Json) → length x ≤ 65535 → read x ≡ reads v
 unfolding placeIn
 breaks x v h e {f} m = in-tree {r = ruleOf f} {p = placeIn f} v h (read-text x v .0 e) (omega arith) (rw (split f) m)
 
+-- the end of a fault that stands in the tree
+fault-ends : (x : List ℕ) (v : Json) (to f : ℕ) → Text 32 x v → Stood v to f → Ends x (ruleOf f) (placeIn f) (endOfFault v f)
+unfolding endOfFault ruleOf
+fault-ends x v to f t (within h k) = rw (lt-ltb (f / 65536) 6 (omega arith)) (itself (omega arith))
+fault-ends x v to f t (single h s) =
+    rw (le-ltb (f / 65536) 6 (omega arith), alone-end (placeIn f) (s .end) (parts v) (s .alone)) (part v (omega arith) t (s .alone))
+
 least-none : (fs : List ℕ) → All Small fs → noFault ≤ least noFault fs → fs ≡ []
 least-none [] a h = refl
 least-none (f ∷ fs) a h = let m : List·Memᴰ f (f ∷ fs) = List·Memᴰ·head refl in absurd (omega (arith, a .0 .1, least-low noFault m))
 
 -- the verdict of a text that is no JSON text, or too deep
 module _ (x : List ℕ) (h : length x ≤ 65535) (w : length x ≤ wholeLength x) (p : ℕ) where
-  of-bad : read x ≡ bad p → Case x (refused 3 p)
-  of-bad e = broken (record { broken = bad-breaks x p e; least = three-first x h w p (stopped x p (inl e)) })
+  of-bad : read x ≡ bad p → Case x (refused 3 p p)
+  of-bad e = broken (record { broken = bad-breaks x p e; least = three-first x h w p (stopped x p (inl e)); ends = itself (omega arith) })
 
-  of-deep : read x ≡ tooDeep p → Case x (refused 4 p)
+  of-deep : read x ≡ tooDeep p → Case x (refused 4 p p)
   of-deep e =
       let (k, b) = deep-deeper x p e in
       let a = stopped x p (inr e) in
-      broken (record { broken = too-deep a k b; least = four-first x h w p 33 a k b })
+      broken (record { broken = too-deep a k b; least = four-first x h w p 33 a k b; ends = itself (omega arith) })
 
 -- the verdict that a least fault gives
-given-case : {x : List ℕ} (n f : ℕ) → (f < noFault → Least x (ruleOf f) (placeIn f)) → (noFault ≤ f → Clean x n) → Case x (given n f)
+given-case : {x : List ℕ} (v : Json) (f : ℕ) → (f < noFault → Least x (ruleOf f) (placeIn f) (endOfFault v f))
+    → (noFault ≤ f → Clean x (length (objectsOf v))) → Case x (given v f)
 unfolding given
-given-case {x} n f low kept = by (decLt f noFault)
+given-case {x} v f low kept = by (decLt f noFault)
   where
-    by : Dec (f < noFault) → Case x (cond (ltb f noFault) (refused (ruleOf f) (placeIn f)) (accepted n))
+    by : Dec (f < noFault) → Case x (cond (ltb f noFault) (refused (ruleOf f) (placeIn f) (endOfFault v f)) (accepted (length (objectsOf v))))
     by (yes k) = rw (lt-ltb f noFault k) (broken (low k))
     by (no k) = rw (le-ltb f noFault (omega arith)) (clean (kept (omega arith)))
 
@@ -229,8 +250,16 @@ given-case {x} n f low kept = by (decLt f noFault)
 of-tree : (x : List ℕ) (v : Json) → length x ≤ 65535 → length x ≤ wholeLength x → read x ≡ reads v → Case x (judged v)
 unfolding judged
 of-tree x v h w e =
-    given-case _ _
-    (λ k. record { broken = breaks x v h e (found (least-in noFault (faults v)) k); least = tree-first x h w v (read-text x v .0 e) })
+    given-case v (least noFault (faults v))
+    (λ k.
+    let m = found (least-in noFault (faults v)) k in
+    let d = in-text x v h e in
+    let t = read-text x v .0 e in
+    record {
+      broken = breaks x v h e m;
+      least = tree-first x h w v t;
+      ends = fault-ends x v (d .to) (least noFault (faults v)) t (one-of (Stood v (d .to)) m (faults-stand v d));
+    })
     (λ k. record { short = h; whole = w; value = v; reads = e; clean = least-none (faults v) (faults-small v (in-text x v h e)) k; count = refl })
   where
     found : (least noFault (faults v) ≡ noFault) ⊎ List·Memᴰ (least noFault (faults v)) (faults v) → least noFault (faults v) < noFault
@@ -243,19 +272,20 @@ unfolding parsed
 cases x = by (decLt 65535 (length x)) (decLt (wholeLength x) (length x)) (read x) refl
   where
     by : Dec (65535 < length x) → Dec (wholeLength x < length x) → (o : Outcome) → read x ≡ o → Case x (verdict x)
-    by (yes h) d o e = rw (verdict-long x h) (broken (record { broken = too-long h; least = one-first x h }))
-    by (no h) (yes k) o e = rw (verdict-odd x (omega arith) k) (broken (record { broken = not-utf8 k; least = two-first x (omega arith) }))
+    by (yes h) d o e = rw (verdict-long x h) (broken (record { broken = too-long h; least = one-first x h; ends = itself (omega arith) }))
+    by (no h) (yes k) o e =
+        rw (verdict-odd x (omega arith) k) (broken (record { broken = not-utf8 k; least = two-first x (omega arith); ends = itself (omega arith) }))
     by (no h) (no k) (reads v) e = rw (verdict-read x (omega arith) (omega arith), e) (of-tree x v (omega arith) (omega arith) e)
     by (no h) (no k) (bad p) e = rw (verdict-read x (omega arith) (omega arith), e) (of-bad x (omega arith) (omega arith) p e)
     by (no h) (no k) (tooDeep p) e = rw (verdict-read x (omega arith) (omega arith), e) (of-deep x (omega arith) (omega arith) p e)
 
 -- ---- promise 2 for judge
 
--- a refusal's rule is broken at that place, no lower rule is broken, and that rule nowhere earlier
-pub refused-least : (x : List ℕ) (r p : ℕ) → verdict x ≡ refused r p → Least x r p
-refused-least x r p e = of (rw e at (cases x))
+-- a refusal's rule is broken at that place, no lower rule is broken, and that rule nowhere earlier, and its end is that of the place
+pub refused-least : (x : List ℕ) (r p e : ℕ) → verdict x ≡ refused r p e → Least x r p e
+refused-least x r p e q = of (rw q at (cases x))
   where
-    of : Case x (refused r p) → Least x r p
+    of : Case x (refused r p e) → Least x r p e
     of (broken l) = l
 
 -- an accepted text breaks no rule, and the answer is its object count
@@ -282,7 +312,7 @@ accepts x f = of (verdict x) refl
   where
     of : (o : Verdict) → verdict x ≡ o → (n : ℕ) × (verdict x ≡ accepted n)
     of (accepted n) e = (n, e)
-    of (refused r p) e = absurd (f r p (refused-least x r p e .broken))
+    of (refused r p c) e = absurd (f r p (refused-least x r p c e .broken))
 
 -- a text is accepted with the count n exactly if it breaks no rule and the tree that the grammar derives has n city objects
 pub accepted-exactly : (x : List ℕ) (n : ℕ) → (verdict x ≡ accepted n) ↔ (BreaksNone x × ((v : Json) → Text 32 x v → n ≡ length (objectsOf v)))
@@ -294,9 +324,9 @@ accepted-exactly x n = ((λ e. let c = accepted-clean x n e in (clean-none x n c
     same : (k : ℕ) → verdict x ≡ accepted k → ((v : Json) → Text 32 x v → n ≡ length (objectsOf v)) → verdict x ≡ accepted n
     same k e g = let c = accepted-clean x k e in e ∙ ap accepted (c .count ∙ sym (g (c .value) (text-of c)))
 
--- one rule and one place are the lowest
-one-least : {x : List ℕ} {r p s q : ℕ} → Least x r p → Least x s q → (r ≡ s) × (p ≡ q)
-one-least {r = r} {p} {s} {q} a b = by (a .least s q (b .broken)) (b .least r p (a .broken))
+-- one rule and one place are the lowest, and have one end
+one-least : {x : List ℕ} {r p e s q f : ℕ} → Least x r p e → Least x s q f → (r ≡ s) × (p ≡ q)
+one-least {r = r} {p} {e} {s} {q} a b = by (a .least s q (b .broken)) (b .least r p (a .broken))
   where
     by : NoLater r p s q → NoLater s q r p → (r ≡ s) × (p ≡ q)
     by (inl h) (inl k) = absurd (omega arith)
@@ -304,10 +334,57 @@ one-least {r = r} {p} {s} {q} a b = by (a .least s q (b .broken)) (b .least r p 
     by (inr h) (inl k) = absurd (omega arith)
     by (inr h) (inr k) = omega arith
 
--- a text is refused by a rule at a place exactly if that rule is the lowest broken one, and that place its earliest
-pub refused-exactly : (x : List ℕ) (r p : ℕ) → (verdict x ≡ refused r p) ↔ Least x r p
-refused-exactly x r p = (refused-least x r p, (λ a. of (verdict x) refl a))
+one-end : {x : List ℕ} {r p e f : ℕ} → Ends x r p e → Ends x r p f → e ≡ f
+one-end (itself h) (itself k) = refl
+one-end (itself h) (part v k t a) = absurd (omega arith)
+one-end (part v h t a) (itself k) = absurd (omega arith)
+one-end {x} {r} {p} {e} {f} (part v h t a) (part w k u b) =
+    let z : e ∷ [] ≡ f ∷ [] = sym a ∙ ap (λ j. endsAt p (parts j)) (one-tree 32 x v w t u) ∙ b in
+    cc
+
+-- a text is refused by a rule at a place, with an end, exactly if that rule is the lowest broken one, that place its earliest, and that end belongs to it
+pub refused-exactly : (x : List ℕ) (r p e : ℕ) → (verdict x ≡ refused r p e) ↔ Least x r p e
+refused-exactly x r p e = (refused-least x r p e, (λ a. of (verdict x) refl a))
   where
-    of : (o : Verdict) → verdict x ≡ o → Least x r p → verdict x ≡ refused r p
-    of (accepted n) e a = absurd (accepted-exactly x n .0 e .0 r p (a .broken))
-    of (refused s q) e a = let (h, k) = one-least (refused-least x s q e) a in e ∙ ap (refused s) k ∙ ap (λ i. refused i p) h
+    of : (o : Verdict) → verdict x ≡ o → Least x r p e → verdict x ≡ refused r p e
+    of (accepted n) z a = absurd (accepted-exactly x n .0 z .0 r p (a .broken))
+    of (refused s q f) z a =
+        let b = refused-least x s q f z in
+        let (h, k) = one-least b a in
+        let c : Ends x r p f = rw (h, k) at (b .ends) in
+        z ∙ rw (h, k, one-end c (a .ends))
+
+-- ---- the end of a refusal
+
+-- by the rules 6 to 17 exactly one value or name of the text begins at the place, and the end is its end
+pub one-begins : (x : List ℕ) (r p e : ℕ) → verdict x ≡ refused r p e → 6 ≤ r → (v : Json) × Text 32 x v × Alone p (parts v) e
+one-begins x r p e q h = of (refused-least x r p e q .ends)
+  where
+    of : {f : ℕ} → Ends x r p f → (v : Json) × Text 32 x v × Alone p (parts v) f
+    of (itself k) = absurd (omega arith)
+    of (part v k t a) = (v, t, a)
+
+-- what is broken at a place of the text
+inside-text : (x : List ℕ) (r p : ℕ) → Breaks x r p → p ≤ length x
+unfolding fault placeIn
+inside-text x r p (too-long k) = omega arith
+inside-text x r p (not-utf8 k) = omega arith
+inside-text x r p (not-json a k f) = a .inside
+inside-text x r p (incomplete a k f) = a .inside
+inside-text x r p (too-deep a k b) = a .inside
+inside-text x r p (in-tree v l t k m) = let (d, to) = placed-in x v l t in of d to (one-of (Stood v (d .to)) m (faults-stand v d))
+  where
+    of : (d : Placed v) → d .to ≤ length x → Stood v (d .to) (fault r p) → p ≤ length x
+    of d to (within h i) = omega arith
+    of d to (single h s) = let (_, more, before) = alone-within (d .spans) _ (s .end) (s .alone) in omega arith
+
+-- the place is no later than the end, and the end is no later than the text's
+pub ends-inside : (x : List ℕ) (r p e : ℕ) → verdict x ≡ refused r p e → (p ≤ e) × (e ≤ length x)
+ends-inside x r p e q = let l = refused-least x r p e q in of (l .ends) (inside-text x r p (l .broken))
+  where
+    of : {f : ℕ} → Ends x r p f → p ≤ length x → (p ≤ f) × (f ≤ length x)
+    of (itself h) k = (omega arith, k)
+    of {f} (part v h t a) k =
+        let (_, _, s, to) = ordered 32 x v t in
+        let (_, more, before) = alone-within s p f a in
+        (omega arith, omega arith)

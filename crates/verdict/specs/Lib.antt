@@ -1,4 +1,6 @@
 -- The verdict of a text.
+pub mod Ends
+pub mod EndLaws
 pub mod Verdict
 pub mod Examples
 pub mod Places

@@ -44,7 +44,7 @@ fn main() -> ExitCode {
         Print::Judged | Print::Dump => judge(&text),
     };
     match verdict {
-        Verdict::Refused { rule, place } => println!("refused {rule} at {place}"),
+        Verdict::Refused { rule, place, end } => println!("refused {rule} at {place} to {end}"),
         Verdict::Accepted { length, objects } if print == Print::Laid => {
             println!("laid {length} bytes, objects {objects}")
         }

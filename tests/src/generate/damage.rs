@@ -1,5 +1,5 @@
-//! Damages: for each rule, a text that breaks this rule and none lower, with the place
-//! that the refusal is expected to name.
+//! Damages: for each rule, a text that breaks this rule and none lower, with the place and
+//! the end that the refusal is expected to name.
 
 use super::draft::{anything, draft, Body, Draft, Entry, Role};
 use super::city_model::{city_model, fresh_id, geometry};
@@ -14,18 +14,18 @@ use crate::{Refusal, TEXT_LIMIT};
 pub fn damaged(rule: u8, random: &mut Random) -> (Vec<u8>, Refusal, Option<Role>) {
     loop {
         let mut model = city_model(random, 6);
-        let bytes = |(text, place)| Some((text, place, None));
+        let bytes = |(text, place)| Some((text, Refusal::at(rule, place), None));
         let found = match rule {
             1 => bytes(too_long(&model, random)),
             2 => bytes(not_utf8(&model, random)),
             3 if random.chance(40) => bytes(cut_or_extended(&model, random)),
             _ => damaged_text(rule, &mut model, random),
         };
-        let Some((text, place, role)) = found else {
+        let Some((text, refusal, role)) = found else {
             continue;
         };
         if text.len() <= TEXT_LIMIT || rule == 1 {
-            return (text, Refusal { rule, place }, role);
+            return (text, refusal, role);
         }
     }
 }
@@ -197,7 +197,7 @@ fn damaged_text(
     rule: u8,
     model: &mut Model,
     random: &mut Random,
-) -> Option<(Vec<u8>, usize, Option<Role>)> {
+) -> Option<(Vec<u8>, Refusal, Option<Role>)> {
     let draft = if rule >= 14 {
         let target = damage_model(rule, model, random)?;
         let mut draft = draft(model, 15, random);
@@ -214,7 +214,13 @@ fn damaged_text(
         Style::random(random)
     };
     let (text, mark) = spell(&draft, style, random);
-    Some((text, mark.expect("a marked damage"), draft.marked()))
+    let mark = mark.expect("a marked damage");
+    let refusal = if rule <= 5 {
+        Refusal::at(rule, mark.start)
+    } else {
+        Refusal::of(rule, mark)
+    };
+    Some((text, refusal, draft.marked()))
 }
 
 /// Breaks a rule from 3 to 13 in a draft; none if the draft has no part for it.

@@ -1,6 +1,8 @@
 //! Spellings: numerals for a value, and the bytes of a draft with random white space and
 //! escapes.
 
+use std::ops::Range;
+
 use super::draft::{Body, Draft};
 use super::random::Random;
 use crate::decimal::Pair;
@@ -81,8 +83,8 @@ impl Style {
     }
 }
 
-/// The bytes of a draft, and the place of its mark.
-pub fn spell(draft: &Draft, style: Style, random: &mut Random) -> (Vec<u8>, Option<usize>) {
+/// The bytes of a draft, and those of them from its mark to the end of the marked value.
+pub fn spell(draft: &Draft, style: Style, random: &mut Random) -> (Vec<u8>, Option<Range<usize>>) {
     let mut writer = Writer {
         text: String::new(),
         mark: None,
@@ -97,7 +99,7 @@ pub fn spell(draft: &Draft, style: Style, random: &mut Random) -> (Vec<u8>, Opti
 
 struct Writer<'a> {
     text: String,
-    mark: Option<usize>,
+    mark: Option<Range<usize>>,
     style: Style,
     random: &'a mut Random,
 }
@@ -118,10 +120,15 @@ impl Writer<'_> {
     }
 
     fn value(&mut self, draft: &Draft) {
+        let start = self.text.len();
+        self.body(&draft.body);
         if let Some(offset) = draft.mark {
-            self.mark = Some(self.text.len() + offset);
+            self.mark = Some(start + offset..self.text.len());
         }
-        match &draft.body {
+    }
+
+    fn body(&mut self, body: &Body) {
+        match body {
             Body::Raw(raw) => self.text += raw,
             Body::Text(text) => self.string(text),
             Body::Array(items) => {
