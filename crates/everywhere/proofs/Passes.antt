@@ -17,7 +17,7 @@ use Rattle.nodes.specs.Faults.{fault, least}
 use Rattle.everywhere.specs.Everywhere.{strings, unpairedIn, rule5, stringsIn, stringsOf}
 use Rattle.nodes.specs.Says.{Root, Gives}
 use Rattle.nodes.specs.Laws.{least-++}
-use Rattle.everywhere.specs.Parts.{Part, value, name, parts, partsIn, partsOf}
+use Rattle.everywhere.specs.Parts.{Part, parts, partsIn, partsOf}
 use Rattle.everywhere.specs.Says.{Stands, of-value, of-name, own5, AnyPart, PartGives}
 
 pub flat-++ : (f : Part → List ℕ) (ds es : List Part) → flatMap f (ds ++ es) ≡ flatMap f ds ++ flatMap f es
@@ -142,7 +142,7 @@ pub record Turn (F : List Part → Type 0) (x t : List ℕ) (n k : ℕ) : Type 0
   pub ends : (k + 3) + 3 * length others ≡ n
   pub holds : F (part ∷ others)
 
--- it begins with all parts of a tree, which has the n words of any that stands there, of any text
+-- at the start all parts of w are left; it has as many words as v, which stands at the same node, of this or another text
 pub rest-all : (F : List Part → Type 0) {x y t : List ℕ} {v w : Json} {n : ℕ} → Sub y t 0 v → Sub x t 0 w → size v ≡ n → F (parts w) → Rest F x t n 0
 rest-all F {w = w} s u e h = record { left = parts w; stand = row u; ends = omega (arith, parts-size w, words s .next, words u .next); holds = h }
 
@@ -161,6 +161,10 @@ module _ {F : List Part → Type 0} {x t : List ℕ} {n k : ℕ} (r : Rest F x t
       go [] e p = p
       go (d ∷ ds) e p = absurd (omega arith)
 
+-- and it goes on with the others
+pub onward : {F : List Part → Type 0} (G : List Part → Type 0) {x t : List ℕ} {n k : ℕ} (u : Turn F x t n k) → G (u .others) → Rest G x t n (k + 3)
+onward G u h = record { left = u .others; stand = u .then; ends = u .ends; holds = h }
+
 -- ---- a pass that looks for faults
 
 -- something is claimed of every least so far
@@ -171,7 +175,7 @@ Always b = Unit
 abbrev Least : (P : ℕ → Type 0) (rule : ℕ) (own : Part → List ℕ) (b all : ℕ) → List Part → Type 0
 Least P rule own b all ds = P b → least b (map (fault rule) (flatMap own ds)) ≡ all
 
--- so it is, with what is left, for every value that stands at the node 0, where the pass began with b₀
+-- this holds of what is left, for every value that stands at the node 0; the pass began with b₀
 pub record Pass (P : ℕ → Type 0) (rule : ℕ) (own : Part → List ℕ) (x t : List ℕ) (n b₀ k b : ℕ) : Type 0 where
   pub root : Root x t n
   left : (v : Json) → Sub x t 0 v → Rest (Least P rule own b (least b₀ (map (fault rule) (flatMap own (parts v))))) x t n k
@@ -195,12 +199,8 @@ module _ {P : ℕ → Type 0} {rule : ℕ} {own : Part → List ℕ} {x t : List
         root = c .root;
         left = λ v s.
             let u = turn (c .left v s) l in
-            record {
-              left = u .others;
-              stand = u .then;
-              ends = u .ends;
-              holds = λ z. let o = g (u .part) (u .stands) z in rw (o .1) (sym (one-more rule own b (u .part) (u .others)) ∙ u .holds (o .0));
-            };
+            onward (Least P rule own _ _) u
+            (λ z. let o = g (u .part) (u .stands) z in rw (o .1) (sym (one-more rule own b (u .part) (u .others)) ∙ u .holds (o .0)));
       }
 
   pub pass-done : n ≤ k → P b → (v : Json) → Sub x t 0 v → b ≡ least b₀ (map (fault rule) (flatMap own (parts v)))

@@ -1,4 +1,4 @@
--- The rules that hold in every part of a text (5 and 6).
+-- The parts of a tree, and the rules that hold in every part of a text (5 and 6).
 pub mod Everywhere
 pub mod Examples
 pub mod Parts

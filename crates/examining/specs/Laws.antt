@@ -89,7 +89,7 @@ module _ (x t₀ t : List ℕ) {r : Opened} (h : Opens x t₀ t r) where
 
 -- as the lookup of an end asks
 pub tabled : {x t : List ℕ} {n : ℕ} → Stands x t n → Tabled t n
-tabled {x} s = record { text = x; value = s .value; stands = s .stands; ends = s .ends }
+tabled {x} s = record { text = x; root = record { value = s .value; stands = s .stands; ends = s .ends; short = s .short } }
 
 module _ {x t : List ℕ} {n : ℕ} {w : Walked} (s : Stands x t n) (h : Examined x t w) where
   -- a tree with no fault

@@ -115,14 +115,6 @@ examples =
     ∷ (withVertices "[]", accepted 0)
     -- rule 7: an escape in the name `type` is decoded
     ∷ (ascii "{\"ty\\u0070e\":1}", refused 7 13 14)
-    -- ends: white space after a name, after an object, after a literal and after a string with an escape is no part of it
-    ∷ (ascii "{ \"a\" : 1 , \"\\u0061\" : 2 }", refused 6 12 20)
-    ∷ (ascii " { \"b\" : [ ] } \n", refused 8 1 14)
-    ∷ (ascii "{ \"type\" : null , \"version\" : 2 }", refused 7 11 15)
-    ∷ (
-      ascii "{\"type\":\"CityJS\\u004fM\" ,\"version\":\"2.0\",\"transform\":{\"scale\":[1,1,1],\"translate\":[0,0,0]},\"CityObjects\":{},\"vertices\":[]}",
-      refused 10 8 23,
-    )
     -- rule 7 comes before rule 8, though the place of rule 8 is earlier
     ∷ (ascii "{\"version\":2.0}", refused 7 11 14)
     -- rule 7: of two wrong kinds the smaller place
@@ -453,6 +445,14 @@ examples =
     ∷ (withObjects "{\"a\":{\"ty\\u0070e\":\"Rode\"}}", refused 10 138 144)
     -- rule 12: `type` and `boundaries` with an escape in a geometry
     ∷ (withGeometries "{\"ty\\u0070e\":\"MultiLineString\",\"lod\":\"1\",\"\\u0062oundaries\":[0]}", refused 12 230 231)
+    -- ends: white space after a name, after an object, after a literal and after a string with an escape is no part of it
+    ∷ (ascii "{ \"a\" : 1 , \"\\u0061\" : 2 }", refused 6 12 20)
+    ∷ (ascii " { \"b\" : [ ] } \n", refused 8 1 14)
+    ∷ (ascii "{ \"type\" : null , \"version\" : 2 }", refused 7 11 15)
+    ∷ (
+      ascii "{\"type\":\"CityJS\\u004fM\" ,\"version\":\"2.0\",\"transform\":{\"scale\":[1,1,1],\"translate\":[0,0,0]},\"CityObjects\":{},\"vertices\":[]}",
+      refused 10 8 23,
+    )
     ∷ []
 
 -- every text of the table has the verdict beside it

@@ -154,7 +154,7 @@ fn judge_json(text: &[u8]) -> Verdict
     judge_long(text)
 }
 
-// Judges a text: the number of its city objects, or the lowest broken rule at its earliest place.
+// Judges a text: the number of its city objects, or the lowest broken rule at its earliest place, with its end.
 pub fn judge(text: &[u8]) -> Verdict
     ensures { λ r. ⌜ verdictOf r ≡ verdict (now (text .entry)) ⌝ }
 {

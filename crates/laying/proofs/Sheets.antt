@@ -40,7 +40,8 @@ use Rattle.examining.specs.declared.Screened.the-variants as screened
 use Rattle.examining.specs.declared.Opened.{Opened}
 use Rattle.examining.specs.declared.Opened.the-variants as opened
 use Rattle.examining.specs.Examining.{screenedAs, Stands, Opens, Examined, RowsOf}
-use Rattle.examining.specs.Laws.{passed-short, passed-verdict, screened-refused, opened-tree, opened-refused, tabled, table-refused, clean, index-offsets, lent-offsets, room-long, table-long, tree-words}
+use Rattle.examining.specs.Laws.{passed-short, passed-verdict, screened-refused, opened-tree, opened-refused, tabled}
+use Rattle.examining.specs.Laws.{table-refused, clean, index-offsets, lent-offsets, room-long, table-long, tree-words}
 use Rattle.examining.specs.Least.{few-clean, judged-none}
 use Rattle.laying.specs.declared.Answer.the-variants as answers
 use Rattle.laying.specs.Laying.{answered, Zeroes, Clean, CleanBy, Lays}

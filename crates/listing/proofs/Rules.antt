@@ -121,8 +121,8 @@ pub phrase-of : {ws d₀ d₁ d : List ℕ} {n to q r : ℕ} → Writes ws d₀ 
 phrase-of f g = record { writes = then f (g .writes); short = g .short }
 
 -- after what was written from the start on
-say : {ws b d₀ d₁ d : List ℕ} {n p q : ℕ} → Writes ws d₀ d₁ 0 p → Phrases b n d₁ d p q → Writes (ws ++ b ++ decimalDigits n) d₀ d 0 q
-say {ws} {b} {n = n} f g = as-bytes (sym (append-assoc ws b (decimalDigits n))) (then f (g .writes))
+then-phrase : {ws b d₀ d₁ d : List ℕ} {n p q : ℕ} → Writes ws d₀ d₁ 0 p → Phrases b n d₁ d p q → Writes (ws ++ b ++ decimalDigits n) d₀ d 0 q
+then-phrase {ws} {b} {n = n} f g = as-bytes (sym (append-assoc ws b (decimalDigits n))) (then f (g .writes))
 
 -- a line that is short enough for the room
 line-of : {ws d₀ d₁ d : List ℕ} {q r : ℕ} → length ws < 80 → length d₀ ≡ 80 → Writes ws d₀ d₁ 0 q → Writes (10 ∷ []) d₁ d q r → Lists (ws ++ (10 ∷ [])) d₀ d r
@@ -144,7 +144,7 @@ module _ {a b : List ℕ} {m n : ℕ} {d₀ d₁ d₂ : List ℕ} {p q : ℕ} wh
   two-phrases fit room f g h =
       let ws : List ℕ = a ++ decimalDigits m ++ b ++ decimalDigits n in
       let size : length ws ≡ length a + length (decimalDigits m) + length b + length (decimalDigits n) = simp length-append in
-      line-of (omega (arith, f .short, g .short)) room (say (f .writes) g) h
+      line-of (omega (arith, f .short, g .short)) room (then-phrase (f .writes) g) h
 
   -- of three
   pub three-phrases : {c d₃ d : List ℕ} {o r s : ℕ} → length a + length b + length c < 20 → length d₀ ≡ 80 → Phrases a m d₀ d₁ 0 p → Phrases b n d₁ d₂ p q
@@ -152,7 +152,7 @@ module _ {a b : List ℕ} {m n : ℕ} {d₀ d₁ d₂ : List ℕ} {p q : ℕ} wh
   three-phrases {c} {o = o} fit room f g k h =
       let ws : List ℕ = a ++ decimalDigits m ++ b ++ decimalDigits n ++ c ++ decimalDigits o in
       let size : length ws ≡ length a + length (decimalDigits m) + length b + length (decimalDigits n) + length c + length (decimalDigits o) = simp length-append in
-      line-of (omega (arith, f .short, g .short, k .short)) room (say (say (f .writes) g) k) h
+      line-of (omega (arith, f .short, g .short, k .short)) room (then-phrase (then-phrase (f .writes) g) k) h
 
 -- ---- answers
 

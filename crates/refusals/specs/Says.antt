@@ -3,20 +3,19 @@ use Prim.Native.Nat.{ℕ}
 use mathlib.Core.Path.{_≡_}
 use mathlib.Core.List.{List}
 use Rattle.json.specs.Tree.{Json}
-use Rattle.json.specs.Table.{Sub, size}
+use Rattle.json.specs.Table.{Sub}
 use Rattle.nodes.specs.Faults.{ruleOf, placeIn}
+use Rattle.nodes.specs.Says.{Root}
 use Rattle.everywhere.specs.Parts.{parts}
 use Rattle.verdict.specs.Ends.{endAt}
 use Rattle.verdict.specs.Verdict.{refused, endOfFault}
 use Rattle.refusals.specs.Refusals.{refusal}
 use Rattle.refusals.specs.declared.Refusal.{Refusal}
 
--- the first n words of the table t are those of a tree, of some text x
+-- the first n words of the table t are those of a tree, of some text
 pub record Tabled (t : List ℕ) (n : ℕ) : Type 0 where
   pub text : List ℕ
-  pub value : Json
-  pub stands : Sub text t 0 value
-  pub ends : size value ≡ n
+  pub root : Root text t n
 
 -- e is the end that belongs to the place p in the tree
 pub record EndsAt (t : List ℕ) (p e : ℕ) : Type 0 where

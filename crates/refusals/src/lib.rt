@@ -78,7 +78,7 @@ fn end_of(table: &[u32], n: usize, fault: u32) -> u32
     ensures { λ r. ⌜ Ended (now (table .entry)) fault r ⌝ }
 {
     let place = fault % 65536;
-    if fault < 393216 {
+    if fault / 65536 < 6 {
         return place;
     }
     end_at(table, n, place)

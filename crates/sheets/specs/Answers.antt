@@ -169,7 +169,7 @@ verdict-low x = by (ltb 65535 (length x)) (ltb (wholeLength x) (length x))
     by false true = omega arith
     by false false = parsed-low (read x)
 
--- where 18 is answered, at any place, the text is accepted and its sheet is longer than the room
+-- where 18 is answered, at any place and with any end, the text is accepted and its sheet is longer than the room
 pub too-long : (x : List ℕ) (r : ℕ) {p c : ℕ} → answer x r ≡ refused 18 p c → ((n : ℕ) × (verdict x ≡ accepted n)) × (r < length (sheetOfText x))
 unfolding answer fitted Low
 too-long x r {p} {c} e = by (verdict x) refl e

@@ -1,10 +1,9 @@
 -- In a tree that lies in order at most one value or name begins at a place, and it ends within the tree.
-use Prim.Native.Nat.{ℕ, suc, _+_, _≤_, _<_}
+use Prim.Native.Nat.{ℕ, _+_, _≤_, _<_}
 use native.Mathlib.Omega.{arith}
-use mathlib.Core.Path.{_≡_, refl, sym, ap, _∙_, subst}
+use mathlib.Core.Path.{_≡_, refl, sym, ap}
 use mathlib.Core.Bool.{Bool, true, false, cond}
 use mathlib.Core.List.{List, [], _∷_, _++_, List·Memᴰ, List·Memᴰ·head, List·Memᴰ·tail}
-use lib.ListN.{length}
 use lib.Dec.{eqb}
 use borrow.Author.Tests.{eqb-true, eq-eqb}
 use Rattle.utf8.specs.Laws.{clash}
@@ -80,7 +79,7 @@ mutual
 
 module _ (q : ℕ) where
   mutual
-    unfolding parts endsAt partPlace
+    unfolding parts endsAt
 
     spans-at : {v : Json} {p e : ℕ} → Spans v p e → AtMost q p e (endsAt q (parts v))
     spans-at (order.null {p = p} {e = e} h) = lead p e h (omega arith) nothing

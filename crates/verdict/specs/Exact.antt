@@ -1,5 +1,5 @@
--- The verdict is the lowest broken rule (docs/RULES.md) at its earliest place, and a text is accepted exactly if it breaks no rule
--- (promise 2 of README.md, for judge).
+-- The verdict is the lowest broken rule (docs/RULES.md) at its earliest place, with the end of that place, and a text is accepted exactly if
+-- it breaks no rule (promise 2 of README.md, for judge).
 use Prim.Native.Nat.{ℕ, _+_, _*_, _/_, _%_, _≤_, _<_, min}
 use native.Mathlib.Omega.{arith}
 use native.Mathlib.Decide.{decLt}
@@ -25,7 +25,7 @@ use Rattle.everywhere.specs.Parts.{parts}
 use Rattle.verdict.specs.Ends.{endsAt}
 use Rattle.verdict.specs.EndLaws.{Alone, alone-end, alone-within}
 use Rattle.verdict.specs.Verdict.{Verdict, accepted, refused, faults, endOfFault, given, judged, parsed, verdict}
-use Rattle.verdict.specs.Places.{Small, Placed, Stood, within, single, faults-small, faults-stand}
+use Rattle.verdict.specs.Places.{Small, Placed, FaultPlace, within, single, faults-small, faults-stand}
 
 -- rules 3 and 4: "let n be the longest prefix that begins some JSON text and never has more than 32 levels open"
 pub record Longest (x : List ℕ) (n : ℕ) : Type 0 where
@@ -126,7 +126,7 @@ in-text x v h e = placed-in x v h (read-text x v .0 e) .0
 -- a fault in such a tree
 module _ (x : List ℕ) (v : Json) (s q : ℕ) (h : length x ≤ 65535) (d : Text 32 x v) (k : q < 65536) (m : List·Memᴰ (fault s q) (faults v)) where
   small : Small (fault s q)
-  small = one-of Small m (faults-small v (in-text x v h (read-text x v .1 d)))
+  small = one-of Small m (faults-small v (placed-in x v h d .0))
 
   five : 5 ≤ s
   unfolding fault
@@ -215,7 +215,7 @@ unfolding placeIn
 breaks x v h e {f} m = in-tree {r = ruleOf f} {p = placeIn f} v h (read-text x v .0 e) (omega arith) (rw (split f) m)
 
 -- the end of a fault that stands in the tree
-fault-ends : (x : List ℕ) (v : Json) (to f : ℕ) → Text 32 x v → Stood v to f → Ends x (ruleOf f) (placeIn f) (endOfFault v f)
+fault-ends : (x : List ℕ) (v : Json) (to f : ℕ) → Text 32 x v → FaultPlace v to f → Ends x (ruleOf f) (placeIn f) (endOfFault v f)
 unfolding endOfFault ruleOf
 fault-ends x v to f t (within h k) = rw (lt-ltb (f / 65536) 6 (omega arith)) (itself (omega arith))
 fault-ends x v to f t (single h s) =
@@ -258,7 +258,7 @@ of-tree x v h w e =
     record {
       broken = breaks x v h e m;
       least = tree-first x h w v t;
-      ends = fault-ends x v (d .to) (least noFault (faults v)) t (one-of (Stood v (d .to)) m (faults-stand v d));
+      ends = fault-ends x v (d .to) (least noFault (faults v)) t (one-of (FaultPlace v (d .to)) m (faults-stand v d));
     })
     (λ k. record { short = h; whole = w; value = v; reads = e; clean = least-none (faults v) (faults-small v (in-text x v h e)) k; count = refl })
   where
@@ -324,7 +324,7 @@ accepted-exactly x n = ((λ e. let c = accepted-clean x n e in (clean-none x n c
     same : (k : ℕ) → verdict x ≡ accepted k → ((v : Json) → Text 32 x v → n ≡ length (objectsOf v)) → verdict x ≡ accepted n
     same k e g = let c = accepted-clean x k e in e ∙ ap accepted (c .count ∙ sym (g (c .value) (text-of c)))
 
--- one rule and one place are the lowest, and have one end
+-- one rule and one place are the lowest
 one-least : {x : List ℕ} {r p e s q f : ℕ} → Least x r p e → Least x s q f → (r ≡ s) × (p ≡ q)
 one-least {r = r} {p} {e} {s} {q} a b = by (a .least s q (b .broken)) (b .least r p (a .broken))
   where
@@ -334,6 +334,7 @@ one-least {r = r} {p} {e} {s} {q} a b = by (a .least s q (b .broken)) (b .least 
     by (inr h) (inl k) = absurd (omega arith)
     by (inr h) (inr k) = omega arith
 
+-- and have one end
 one-end : {x : List ℕ} {r p e f : ℕ} → Ends x r p e → Ends x r p f → e ≡ f
 one-end (itself h) (itself k) = refl
 one-end (itself h) (part v k t a) = absurd (omega arith)
@@ -364,7 +365,7 @@ one-begins x r p e q h = of (refused-least x r p e q .ends)
     of (itself k) = absurd (omega arith)
     of (part v k t a) = (v, t, a)
 
--- what is broken at a place of the text
+-- a rule is broken within the text, or at its end
 inside-text : (x : List ℕ) (r p : ℕ) → Breaks x r p → p ≤ length x
 unfolding fault placeIn
 inside-text x r p (too-long k) = omega arith
@@ -372,9 +373,9 @@ inside-text x r p (not-utf8 k) = omega arith
 inside-text x r p (not-json a k f) = a .inside
 inside-text x r p (incomplete a k f) = a .inside
 inside-text x r p (too-deep a k b) = a .inside
-inside-text x r p (in-tree v l t k m) = let (d, to) = placed-in x v l t in of d to (one-of (Stood v (d .to)) m (faults-stand v d))
+inside-text x r p (in-tree v l t k m) = let (d, to) = placed-in x v l t in of d to (one-of (FaultPlace v (d .to)) m (faults-stand v d))
   where
-    of : (d : Placed v) → d .to ≤ length x → Stood v (d .to) (fault r p) → p ≤ length x
+    of : (d : Placed v) → d .to ≤ length x → FaultPlace v (d .to) (fault r p) → p ≤ length x
     of d to (within h i) = omega arith
     of d to (single h s) = let (_, more, before) = alone-within (d .spans) _ (s .end) (s .alone) in omega arith
 

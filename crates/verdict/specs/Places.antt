@@ -629,9 +629,9 @@ pub record Single (v : Json) (p : ℕ) : Type 0 where
   pub alone : Alone p (parts v) end
 
 -- where a fault f of a tree v stands that ends at `to`: by rule 5 before that end, by the others at a value or a name
-pub data Stood (v : Json) (to f : ℕ) : Type 0 where
-  within : f < 6 * 65536 → placeIn f < to → Stood v to f
-  single : 6 * 65536 ≤ f → Single v (placeIn f) → Stood v to f
+pub data FaultPlace (v : Json) (to f : ℕ) : Type 0 where
+  within : f < 6 * 65536 → placeIn f < to → FaultPlace v to f
+  single : 6 * 65536 ≤ f → Single v (placeIn f) → FaultPlace v to f
 
 -- the faults of the rules 5 to 14
 abbrev pub early : Json → List ℕ
@@ -684,11 +684,11 @@ module _ (v : Json) (d : Placed v) where
       all-append Small (early v) (linkFaults v) (all-map (λ f (l, u). (omega arith, omega arith)) (early v) early-among)
       (all-map (λ f (l, u). (omega arith, omega arith)) (linkFaults v) links-among)
 
-  pub faults-stand : All (Stood v (d .to)) (faults v)
+  pub faults-stand : All (FaultPlace v (d .to)) (faults v)
   unfolding faults
   faults-stand =
-      all-append (Stood v (d .to)) (early v) (linkFaults v)
-      (all-early (Stood v (d .to))
+      all-append (FaultPlace v (d .to)) (early v) (linkFaults v)
+      (all-early (FaultPlace v (d .to))
       (all-map (λ f ((l, u), q). within (omega arith) q) (map (fault 5) (rule5 v)) by-rule-5)
       (all-map (λ f ((l, u), q). single (omega arith) q) (map (fault 6) (rule6 v)) by-rule-6)
       (all-map (λ f ((l, u), q). single (omega arith) q) (cityJson v) by-schema))

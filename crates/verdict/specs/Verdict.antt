@@ -1,5 +1,5 @@
 -- The verdict of a text (docs/RULES.md, "The answer").
-use Prim.Native.Nat.{ℕ, _+_}
+use Prim.Native.Nat.{ℕ}
 use mathlib.Core.Bool.{cond}
 use mathlib.Core.List.{List, _++_, map}
 use mathlib.Core.Option.{Option, none, some}
@@ -16,7 +16,7 @@ use Rattle.rules.specs.Schema.{cityJson}
 use Rattle.rules.specs.Links.{linkFaults}
 use Rattle.verdict.specs.Ends.{endAt}
 
--- "Acceptance gives .. the object count. Otherwise a refusal carries its number and its place together", and "an end"
+-- "Acceptance gives .. the object count. Otherwise a refusal carries its number and its place together"; "Every refusal answer gains an end"
 pub data Verdict : Type 0 where
   accepted : (objects : ℕ) → Verdict
   refused : (rule place end : ℕ) → Verdict
