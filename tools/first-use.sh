@@ -3,9 +3,8 @@
 # repository's folder, before it sources this, and then
 #   name      the program's name
 #   program   the file that is run
-#   sources   the files and folders that it is built from; what is in a folder `target` does not count
+#   sources   the files and folders that it is built from
 #   tools     the commands that its build needs
-#   trouble   the status if one of them is missing
 #   build     a function that builds it in the folder `root`, with nothing on standard input
 
 declare -A what=([rt]="the command of the Rattle toolchain" [cargo]="the command of the Rust toolchain" [cc]="a C compiler")
@@ -19,7 +18,7 @@ fail() {
 # is_built: the program is there, and no source is newer than its stamp.
 is_built() {
     [ -x "$program" ] && [ -e "$stamp" ] || return 1
-    [ -z "$(find "${sources[@]}" -name target -prune -o -newer "$stamp" -print -quit 2>/dev/null)" ]
+    [ -z "$(find "${sources[@]}" -newer "$stamp" -print -quit 2>/dev/null)" ]
 }
 
 # build_on_first_use: builds the program if it is not there or too old, one program at a time; what is said meanwhile goes to standard
@@ -28,7 +27,7 @@ build_on_first_use() {
     local stamp=$root/target/$name.stamp tool
     if is_built; then return; fi
     for tool in "${tools[@]}"; do
-        command -v "$tool" >/dev/null || fail "$trouble" "$name: it is not built yet, and $tool, ${what[$tool]}, is not on the PATH"
+        command -v "$tool" >/dev/null || fail 1 "$name: it has to be built, and $tool, ${what[$tool]}, is not on the PATH"
     done
     mkdir -p "$root/target"
     exec 9>"$root/target/first-use.lock"

@@ -23,8 +23,8 @@ if it breaks no rule, with the number of its city objects, or else
         |                                                  ^^^^^^^
 
 with the line, the column and the rule, and carets under the value or the name
-that is at fault, or one caret where the text can't be read on. No rule with a
-lower number is broken, and this one not earlier: mend it, and judge again.
+that is at fault, or one caret at the place, for the rules 1 to 5. No rule with
+a lower number is broken, and this one not earlier: mend it, and judge again.
 docs/RULES.md has every rule with its usual cause.
 
 Lines and columns count from 1, and columns are characters. At most 100 columns
@@ -37,7 +37,7 @@ options:
     --            what follows is a FILE, also if it begins with -
 
 status: 0 if every text is accepted, 1 if one is refused, 2 if one can't be read
-or the call is wrong";
+or an answer written, or the call is wrong";
 
 /// Judges the texts that the arguments name, each whatever became of those before it.
 pub fn run(arguments: &[OsString], out: &mut Output) -> Result<Status, Stop> {

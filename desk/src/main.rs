@@ -67,10 +67,6 @@ fn call(arguments: &[OsString], out: &mut Output) -> Result<Status, Stop> {
     match first.to_str() {
         Some("--help" | "-h") => print_help(out),
         Some("--version") => print_version(out),
-        Some("help") => match rest.first() {
-            Some(name) => print_help_of(subcommand(name)?, out),
-            None => print_help(out),
-        },
         _ => run(subcommand(first)?, rest, out),
     }
 }

@@ -77,7 +77,7 @@ pub struct Output {
 }
 
 impl Output {
-    /// Standard output, with colours if it is a terminal that takes them and nobody minds.
+    /// Standard output, with colours if it is a terminal that takes them, unless NO_COLOR is set.
     pub fn standard() -> Output {
         let is_set = |name: &str| env::var_os(name).is_some_and(|value| !value.is_empty());
         let is_dumb = env::var_os("TERM").is_some_and(|value| value == "dumb");

@@ -25,7 +25,7 @@ fn help() {
         "    -h, --help    prints this; after a subcommand, what that does",
         "    --version     prints the version",
     ]);
-    for argument in ["--help", "-h", "help"] {
+    for argument in ["--help", "-h"] {
         check(&desk.run(&[argument]), 0, &expected, "");
     }
 }
@@ -48,11 +48,7 @@ fn help_of_judge() {
         "{printed}"
     );
 
-    for arguments in [
-        &["judge", "-h"][..],
-        &["judge", "none.json", "--help"],
-        &["help", "judge"],
-    ] {
+    for arguments in [&["judge", "-h"][..], &["judge", "none.json", "--help"]] {
         check(&desk.run(arguments), 0, &printed, "");
     }
 }
@@ -104,12 +100,6 @@ fn wrong_calls() {
         2,
         "",
         &of_all("there is no subcommand ␛[1m"),
-    );
-    check(
-        &desk.run(&["help", "me"]),
-        2,
-        "",
-        &of_all("there is no subcommand me"),
     );
 
     let of_judge = |why: &str| {
@@ -176,8 +166,8 @@ fn output_that_fails() {
     }
 }
 
-/// A terminal, and the path of the side on which programs run.
-fn terminal() -> (File, String) {
+/// A terminal, if there are any here, and the path of the side on which programs run.
+fn terminal() -> Option<(File, String)> {
     extern "C" {
         fn posix_openpt(flags: c_int) -> c_int;
         fn grantpt(terminal: c_int) -> c_int;
@@ -190,18 +180,21 @@ fn terminal() -> (File, String) {
     let terminal = unsafe {
         // To be read and written, and not to become the tests' own terminal.
         let terminal = posix_openpt(0o2 | 0o400);
-        assert!(terminal >= 0 && grantpt(terminal) == 0 && unlockpt(terminal) == 0);
+        if terminal < 0 {
+            return None;
+        }
+        assert!(grantpt(terminal) == 0 && unlockpt(terminal) == 0);
         assert_eq!(ptsname_r(terminal, path.as_mut_ptr(), path.len()), 0);
         File::from_raw_fd(terminal)
     };
     let path = path.map(|byte| byte as u8);
     let path = CStr::from_bytes_until_nul(&path).expect("a path");
-    (terminal, path.to_str().expect("UTF-8").to_string())
+    Some((terminal, path.to_str().expect("UTF-8").to_string()))
 }
 
-/// What judge prints on a terminal with such variables.
-fn on_a_terminal(desk: &Desk, files: &[&str], variables: &[(&str, &str)]) -> String {
-    let (mut terminal, path) = terminal();
+/// What judge prints on a terminal with such variables, if there is a terminal.
+fn on_a_terminal(desk: &Desk, files: &[&str], variables: &[(&str, &str)]) -> Option<String> {
+    let (mut terminal, path) = terminal()?;
     let side = OpenOptions::new()
         .read(true)
         .write(true)
@@ -217,9 +210,8 @@ fn on_a_terminal(desk: &Desk, files: &[&str], variables: &[(&str, &str)]) -> Str
     // After what was printed comes an error, since nobody has the other side any more.
     let mut printed = Vec::new();
     let _ = terminal.read_to_end(&mut printed);
-    String::from_utf8(printed)
-        .expect("UTF-8")
-        .replace("\r\n", "\n")
+    let printed = String::from_utf8(printed).expect("UTF-8");
+    Some(printed.replace("\r\n", "\n"))
 }
 
 #[test]
@@ -249,8 +241,17 @@ fn colours_on_a_terminal_only() {
         &plain,
         "",
     );
-    assert_eq!(on_a_terminal(&desk, &files, &[]), coloured);
-    assert_eq!(on_a_terminal(&desk, &files, &[("NO_COLOR", "")]), coloured);
-    assert_eq!(on_a_terminal(&desk, &files, &[("NO_COLOR", "1")]), plain);
-    assert_eq!(on_a_terminal(&desk, &files, &[("TERM", "dumb")]), plain);
+    let cases: [(&[(&str, &str)], &String); 4] = [
+        (&[], &coloured),
+        (&[("NO_COLOR", "")], &coloured),
+        (&[("NO_COLOR", "1")], &plain),
+        (&[("TERM", "dumb")], &plain),
+    ];
+    for (variables, expected) in cases {
+        let Some(printed) = on_a_terminal(&desk, &files, variables) else {
+            eprintln!("not tried: colours on a terminal (there are none here)");
+            return;
+        };
+        assert_eq!(&printed, expected);
+    }
 }

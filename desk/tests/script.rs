@@ -55,7 +55,6 @@ fn repository(name: &str) -> Desk {
         "crates/one/proofs",
         "rust/kebrawish/src",
         "desk/src",
-        "desk/target",
     ] {
         fs::create_dir_all(desk.folder.join(folder)).expect("a folder");
     }
@@ -108,8 +107,12 @@ fn builds_on_first_use_and_after_changes() {
         check(&run(&desk), 7, RAN, &lines(&BUILDING));
         check(&run(&desk), 7, RAN, "");
     }
-    // What cargo leaves is no source.
-    fs::write(desk.folder.join("desk/target/left"), "").expect("a file");
+    // What cargo leaves and takes away is no source.
+    let left = desk.folder.join("desk/target");
+    fs::create_dir(&left).expect("a folder");
+    fs::write(left.join("left"), "").expect("a file");
+    check(&run(&desk), 7, RAN, "");
+    fs::remove_dir_all(&left).expect("the folder");
     check(&run(&desk), 7, RAN, "");
     fs::remove_file(desk.folder.join("target/desk/release/kebrawish")).expect("the program");
     check(&run(&desk), 7, RAN, &lines(&BUILDING));
@@ -199,7 +202,7 @@ fn what_is_missing() {
         let mut command = script(&desk, &desk.folder.join("kebrawish"));
         let found = command.env("PATH", &few).output().expect("the script");
         let said =
-            format!("kebrawish: it is not built yet, and {tool}, {what}, is not on the PATH\n");
+            format!("kebrawish: it has to be built, and {tool}, {what}, is not on the PATH\n");
         check(&found, 2, "", &said);
         write_program(few.join(tool), "#!/bin/sh\n");
     };

@@ -1,6 +1,7 @@
 //! Links the static library `libkebrawish.a` from the folder that the environment variable
-//! `KEBRAWISH_STATICLIB` names, or from `target/staticlib` at the repository's root. A package
-//! that depends on this one is told the archive: `DEP_KEBRAWISH_ARCHIVE` in its build script.
+//! `KEBRAWISH_STATICLIB` names by an absolute path, or from `target/staticlib` at the
+//! repository's root. A package that depends on this one is told the archive:
+//! `DEP_KEBRAWISH_ARCHIVE` in its build script.
 
 use std::env;
 use std::path::PathBuf;

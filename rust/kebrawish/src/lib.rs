@@ -12,8 +12,8 @@
 //! 1. Each call ends, with nothing undefined. A refusal carries a [`Rule`], a place and an end,
 //!    and every byte of the lent sheet is then zero.
 //! 2. A text is accepted exactly when it breaks no rule and its sheet fits. Otherwise the answer
-//!    is the lowest broken rule at its earliest place. An accepted text gives the defined sheet,
-//!    its true length and object count, and zeros after it.
+//!    is the lowest broken rule at its earliest place, with its end. An accepted text gives the
+//!    defined sheet, its true length and object count, and zeros after it.
 //! 3. Two different city models never share a sheet, and neither sheet begins the other. Texts
 //!    that are alike have the same model and sheet.
 //!
@@ -31,7 +31,7 @@
 //!
 //! `rt staticlib kebrawish` at the repository's root proves the library and writes the archive to
 //! `target/staticlib`, where this crate finds it; the environment variable `KEBRAWISH_STATICLIB`
-//! names another folder. It is for x86-64 Linux. Archive and crate are of one version: a call
+//! names another folder, by an absolute path. It is for x86-64 Linux. Archive and crate are of one version: a call
 //! panics if the library answers a rule that the crate does not know.
 
 #![warn(missing_docs)]

@@ -5,8 +5,7 @@ use std::fmt;
 /// A rule that a text can break.
 ///
 /// The place of a refusal is that of the value or name that breaks the rule, and its end is
-/// the end of that. Under the rules 1 to 5 and 18 no value or name is at the place, which is
-/// then the end also.
+/// the end of that. Under the rules 1 to 5 and 18 the end is the place itself.
 ///
 /// ```
 /// use kebrawish::Rule;
