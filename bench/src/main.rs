@@ -8,7 +8,7 @@ use std::cmp::Reverse;
 use std::collections::BTreeMap;
 use std::process::Command;
 use std::rc::Rc;
-use texts::{Kind, DENSE, MANY, POINTED, PRETTY, WORST};
+use texts::{Kind, DENSE, MANY, PRETTY, WORST};
 
 /// The greatest length of a text.
 const MOST: usize = 65_535;
@@ -57,7 +57,6 @@ fn main_texts(text: fn(&Kind, usize) -> Rc<Text>) -> Vec<(String, Rc<Text>)> {
         named(&DENSE, 64_000),
         named(&MANY, MOST),
         named(&PRETTY, MOST),
-        named(&POINTED, 64_000),
         ("2,000-byte text (dense)".to_string(), text(&DENSE, 2_000)),
     ]
 }
@@ -146,48 +145,39 @@ fn ratio_table(all: &[(String, Vec<Runner>)]) {
     println!();
 }
 
-fn goal_head() {
+/// What is to be reached on the first two texts, and on the short one.
+fn goal_table(all: &[(String, Vec<Runner>)]) {
     println!("To reach:\n");
     head(&["text", "what", "measured", "to reach", ""]);
-}
-
-/// A row of what is to be reached.
-fn goal(name: &str, what: String, measured: f64, goal: f64, unit: &str) {
-    let verdict = if measured <= goal { "met" } else { "missed" };
-    let number = |n: f64| format!("{n:.2}{unit}");
-    row(&[
-        name.to_string(),
-        what,
-        number(measured),
-        number(goal),
-        verdict.to_string(),
-    ]);
-}
-
-/// What is to be reached on the first two texts, on the one with points and on the short one.
-fn goal_table(all: &[(String, Vec<Runner>)]) {
-    goal_head();
-    let ratios = [
-        (0, "serde_json", 1.0),
-        (1, "serde_json", 1.3),
-        (0, "simdjson", 4.0),
-    ];
-    for (text, ratios) in [(0, &ratios[..]), (1, &ratios), (3, &ratios[..1])] {
-        let (name, runners) = &all[text];
-        for (side, over, most) in ratios {
-            if let Some(other) = runners.iter().find(|runner| runner.side.name() == *over) {
-                let runner = &runners[*side];
-                let what = format!("{} / {over}", runner.side.name());
-                goal(name, what, micros(runner) / micros(other), *most, "");
+    let line = |name: &str, what: String, measured: f64, goal: f64, unit: &str| {
+        let verdict = if measured <= goal { "met" } else { "missed" };
+        let number = |n: f64| format!("{n:.2}{unit}");
+        row(&[
+            name.to_string(),
+            what,
+            number(measured),
+            number(goal),
+            verdict.to_string(),
+        ]);
+    };
+    for (name, runners) in &all[..2] {
+        for (side, over, goal) in [
+            (0, "serde_json", 1.0),
+            (1, "serde_json", 1.3),
+            (0, "simdjson", 4.0),
+        ] {
+            if let Some(other) = runners.iter().find(|runner| runner.side.name() == over) {
+                let what = format!("{} / {over}", runners[side].side.name());
+                line(name, what, micros(&runners[side]) / micros(other), goal, "");
             }
         }
     }
     for side in 0..2 {
-        let (dense, small) = (&all[0].1[side], &all[4].1[side]);
+        let (dense, small) = (&all[0].1[side], &all[3].1[side]);
         let share = small.text.bytes().len() as f64 / dense.text.bytes().len() as f64;
         let what = format!("{}, over its share of the dense quarter", small.side.name());
-        goal(
-            &all[4].0,
+        line(
+            &all[3].0,
             what,
             micros(small) - share * micros(dense),
             10.0,
@@ -324,7 +314,6 @@ fn instructions(sides: &[Rc<Side>]) {
         "per byte",
         "in which functions",
     ]);
-    let mut judged = BTreeMap::new();
     for (place, (name, runner)) in counted(sides, checked).iter().enumerate() {
         let path = format!("{COUNTS}/out.{}", place + 1);
         let functions = profile(&std::fs::read_to_string(path).expect("a file of callgrind"));
@@ -337,23 +326,14 @@ fn instructions(sides: &[Rc<Side>]) {
             .filter(|(_, count)| own && share(*count) >= 1.0)
             .map(|(name, count)| format!("{name} {:.0}%", share(*count)))
             .collect();
-        let per_byte = total as f64 / runner.text.bytes().len() as f64;
-        if matches!(*runner.side, Side::Judge) {
-            judged.insert(name.clone(), per_byte);
-        }
         row(&[
             name.clone(),
             runner.side.name().to_string(),
             total.to_string(),
-            format!("{per_byte:.1}"),
+            format!("{:.1}", total as f64 / runner.text.bytes().len() as f64),
             named.join(", "),
         ]);
     }
-    println!();
-    goal_head();
-    let what = "judge's instructions a byte, to the plain dense quarter's".to_string();
-    let ratio = judged[POINTED.name] / judged[DENSE.name];
-    goal(POINTED.name, what, ratio, 1.6, "");
 }
 
 /// The instructions of each function itself in a file of callgrind, the most first.

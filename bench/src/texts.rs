@@ -9,16 +9,13 @@ pub struct Kind {
 }
 
 pub const DENSE: Kind = kind("dense quarter", 0, dense);
-pub const POINTED: Kind = kind("dense quarter, vertices with a point", 0, |limit| {
-    quarter(limit, ".0")
-});
 pub const MANY: Kind = kind("1,024 small objects", 0, many);
 pub const PRETTY: Kind = kind("the same, pretty-printed", 0, |limit| {
     largest(limit, 1024, |n| pretty(&objects(n)))
 });
 
 /// The texts that might be slow.
-pub const WORST: [Kind; 25] = [
+pub const WORST: [Kind; 23] = [
     kind("one object of many names", 0, |limit| {
         largest(limit, usize::MAX, |n| names(n, short))
     }),
@@ -81,20 +78,6 @@ pub const WORST: [Kind; 25] = [
     kind("one long numeral", 0, |limit| {
         largest(limit, usize::MAX, |n| {
             city("", "").replacen("0.001", &format!("0.{}1e{n}", "0".repeat(n)), 1)
-        })
-    }),
-    kind("an integer with a long fraction", 0, |limit| {
-        largest(limit, usize::MAX, |n| {
-            city("", &format!("[1.0{},0,0]", "0".repeat(n)))
-        })
-    }),
-    kind("indices with long fractions", 0, |limit| {
-        largest(limit, usize::MAX, |n| {
-            let boundary = vec!["0.00000000000000000000"; n].join(",");
-            let geometry =
-                format!(r#"{{"type":"MultiPoint","lod":"1","boundaries":[{boundary}]}}"#);
-            let object = format!(r#""a":{{"type":"Road","geometry":[{geometry}]}}"#);
-            city(&object, "[0,0,0]")
         })
     }),
     kind("one long string, an ID", 0, |limit| {
@@ -205,8 +188,7 @@ fn names(count: usize, name: impl Fn(usize) -> String) -> String {
 }
 
 /// Buildings with many walls, `corners` in all: a prism of 24 corners each, the last with what is left.
-/// `point` stands after each coordinate.
-fn buildings(corners: usize, point: &str) -> String {
+fn buildings(corners: usize) -> String {
     let mut objects = Vec::new();
     let mut vertices = Vec::new();
     let mut left = corners;
@@ -243,23 +225,18 @@ fn buildings(corners: usize, point: &str) -> String {
                 let turn = k as f64 * std::f64::consts::TAU / n as f64;
                 let x = 41_000.0 * (id % 6) as f64 - 90_000.0 + 15_250.0 * turn.cos();
                 let y = 37_500.0 * (id / 6) as f64 + 12_400.0 * turn.sin();
-                let (x, y) = (x as i64, y as i64);
-                vertices.push(format!("[{x}{point},{y}{point},{height}{point}]"));
+                vertices.push(format!("[{},{},{height}]", x as i64, y as i64));
             }
         }
     }
     city(&objects.join(","), &vertices.join(","))
 }
 
-/// A dense quarter of exactly `limit` bytes, with `point` after each coordinate: what is left over is line feeds.
-fn quarter(limit: usize, point: &str) -> String {
-    let mut text = largest(limit, usize::MAX, |corners| buildings(corners, point));
+/// A dense quarter of exactly `limit` bytes: what is left over is line feeds.
+pub fn dense(limit: usize) -> String {
+    let mut text = largest(limit, usize::MAX, buildings);
     text.push_str(&"\n".repeat(limit - text.len()));
     text
-}
-
-pub fn dense(limit: usize) -> String {
-    quarter(limit, "")
 }
 
 /// A dense quarter whose last number is too large, so that its end is looked up past all others.

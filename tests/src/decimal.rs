@@ -44,22 +44,21 @@ impl<'a> Numeral<'a> {
     }
 }
 
-/// Whether a JSON numeral is an integer (rule 12): "a minus or none, digits, then nothing or
-/// a point and zeros only, with no exponent part".
+/// Whether a JSON numeral is an integer: no fraction and no exponent part (rule 12).
 pub fn is_integer(numeral: &str) -> bool {
     let parts = Numeral::split(numeral);
-    let mut fraction = parts.fraction.unwrap_or("").bytes();
-    parts.exponent.is_none() && fraction.all(|digit| digit == b'0')
+    parts.fraction.is_none() && parts.exponent.is_none()
 }
 
-/// The value of an integer numeral, by the digits before its point: "`-0.0` is zero". None if
-/// it is no integer or beyond 30 digits.
+/// The value of an integer numeral; none if it is no integer or beyond 30 digits.
 pub fn integer(numeral: &str) -> Option<i128> {
     if !is_integer(numeral) {
         return None;
     }
-    let parts = Numeral::split(numeral);
-    signed(parts.negative, parts.whole)
+    signed(
+        Numeral::split(numeral).negative,
+        numeral.trim_start_matches('-'),
+    )
 }
 
 /// The pair that a JSON numeral stands for, or none if it is out of range (rule 13).

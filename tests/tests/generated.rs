@@ -19,18 +19,6 @@ const STACK: usize = 1_460 << 10;
 const ENOUGH: u64 = 20_000;
 const LEAST: u64 = 50;
 
-/// Where numbers with a point are refused: those that are no integers, and integers beyond
-/// their limits.
-const POINTED: [(u8, &str); 7] = [
-    (12, "Index(0) with a point"),
-    (12, "Index(0) with a point and an exponent"),
-    (12, "Value(0) with a point"),
-    (12, "Value(0) with a point and an exponent"),
-    (13, "Coordinate with a point"),
-    (13, "Index(0) with a point"),
-    (13, "Value(0) with a point"),
-];
-
 fn setting(name: &str, default: u64) -> u64 {
     match env::var(name) {
         Ok(value) => value
@@ -105,12 +93,8 @@ impl Counts {
     fn add(&mut self, case: &Case, rule: u8) {
         *self.answers.entry(rule).or_default() += 1;
         if let Some(role) = case.damaged {
-            let role = format!("{:?}", role.kind());
-            if let Some(parts) = number_parts(case) {
-                let target = (rule, format!("{role} {parts}"));
-                *self.targets.entry(target).or_default() += 1;
-            }
-            *self.targets.entry((rule, role)).or_default() += 1;
+            let target = (rule, format!("{:?}", role.kind()));
+            *self.targets.entry(target).or_default() += 1;
         }
         if let Expected::Model(model) = &case.expected {
             self.coverage.add(&case.text, model);
@@ -142,10 +126,6 @@ impl Counts {
                 assert!(found, "rule {rule} is not broken at {role:?}");
             }
         }
-        for target in POINTED {
-            let found = self.targets.contains_key(&(target.0, target.1.to_string()));
-            assert!(found, "rule {} is not broken at {}", target.0, target.1);
-        }
         // The types of docs/RULES.md, the pairs that it permits, and 18 surface types and `+`.
         let kinds = [
             ("object types", 33, LEAST),
@@ -156,28 +136,11 @@ impl Counts {
             ("IDs", 4, LEAST),
             ("semantics", 4, LEAST),
             ("spellings", 5, LEAST),
-            ("integers with a point", 3, LEAST),
         ];
         for (heading, names, least) in kinds {
             let found = self.coverage.least(heading);
             assert!(found.0 == names && found.1 >= least, "{heading}: {found:?}");
         }
-    }
-}
-
-/// What a refused number has beside its digits.
-fn number_parts(case: &Case) -> Option<&'static str> {
-    let Expected::Refusal(refusal) = case.expected else {
-        return None;
-    };
-    let refused = &case.text[refusal.place..refusal.end];
-    let has = |bytes: &[u8]| refused.iter().any(|byte| bytes.contains(byte));
-    let number = refused.iter().all(|byte| b"-+.eE0123456789".contains(byte));
-    match (number && has(b"."), number && has(b"eE")) {
-        (true, true) => Some("with a point and an exponent"),
-        (true, false) => Some("with a point"),
-        (false, true) => Some("with an exponent"),
-        (false, false) => None,
     }
 }
 

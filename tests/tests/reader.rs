@@ -67,24 +67,6 @@ fn pairs() {
     assert_eq!(pair(&format!("7e{zeros}1")), Some((7, 1)));
 }
 
-#[test]
-fn integers() {
-    let zeros = "0".repeat(60_000);
-    assert_eq!(decimal::integer("-0"), Some(0));
-    assert_eq!(decimal::integer("-0.0"), Some(0));
-    assert_eq!(decimal::integer("102.0"), Some(102));
-    assert_eq!(decimal::integer("-2147483648.000"), Some(-2_147_483_648));
-    assert_eq!(decimal::integer(&format!("10.{zeros}")), Some(10));
-    // An integer, but beyond what is read.
-    assert!(decimal::is_integer(&format!("1{zeros}.{zeros}")));
-    assert_eq!(decimal::integer(&format!("1{zeros}.{zeros}")), None);
-    let late = format!("1.{zeros}1");
-    for numeral in ["1.5", "0.10", "1e0", "10e-1", "1.0e0", "1.0E+0", &late] {
-        assert!(!decimal::is_integer(numeral));
-        assert_eq!(decimal::integer(numeral), None);
-    }
-}
-
 /// What may follow a prefix of a short JSON text: the rest of a token, the rest of a
 /// member, and closing brackets.
 fn completions() -> Vec<String> {

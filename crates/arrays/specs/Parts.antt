@@ -6,7 +6,7 @@ use Rattle.std.proofs.Math.Option as option
 use Rattle.std.proofs.lemmas.List.{length-map}
 use Rattle.shapes.specs.Checks.{is_some}
 use Rattle.utf8.specs.Laws.{never}
-use Rattle.numerals.specs.Numerals.{decimal, in_range, pair_of, integer, fits32, is_below, before, is_point, digits, natural, negative}
+use Rattle.numerals.specs.Numerals.{decimal, in_range, pair_of, integer, fits32, is_below, digits, natural, negative}
 use Rattle.numerals.specs.Numerals as numerals
 use Rattle.numerals.specs.Reading.{saturated}
 use Rattle.json.specs.Tree.{Json, null, bool, num, str, arr, obj}
@@ -81,7 +81,7 @@ below-signed false n h = (refl, ltb-true n (2 ^ 32) h)
 pub index_read : (v : Json) → Index v → (index_of v ≡ saturated (numeral_of v)) × (index_of v < 2 ^ 32)
 unfolding Index index_of integer saturated
 index_read v h =
-    let n = natural 0 (digits (before is_point (numeral_of v))) in
+    let n = natural 0 (digits (numeral_of v)) in
     let (e, l) = below-signed (negative (numeral_of v)) n h.1 in
     let z : index_of v ≡ n = ap read.natural (integer-read v h.0) ∙ e in
     (omega (arith, z, l), omega (arith, z, l))

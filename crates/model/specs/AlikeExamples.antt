@@ -43,9 +43,9 @@ building =
 unfoldable pub building-respelled : List ℕ
 unfolding ascii
 building-respelled =
-    ascii "{\"vertices\":[[0,0,0],[1.0,0,-0.0],[0,1,0]],\"CityObjects\":{\"h\\u006fuse\":{\"children\":[\"p\\u0061rt\"],\"ty\\u0070e\":\"\\u0042uilding\"},"
-    ++ ascii "\"part\":{\"attributes\":{},\"geometry\":[{\"+colour\":[],\"semantics\":{\"values\":[0.00,null],\"surfaces\":[{\"type\":\"\\u0052oofSurface\"}]},"
-    ++ ascii "\"boundaries\":[[[0,1.0,2]],[[2,1,0]]],\"lod\":\"2\\u002e1\",\"type\":\"MultiSurface\"}],\"parents\":[\"house\"],\"type\":\"BuildingPart\"}},"
+    ascii "{\"vertices\":[[0,0,0],[1,0,-0],[0,1,0]],\"CityObjects\":{\"h\\u006fuse\":{\"children\":[\"p\\u0061rt\"],\"ty\\u0070e\":\"\\u0042uilding\"},"
+    ++ ascii "\"part\":{\"attributes\":{},\"geometry\":[{\"+colour\":[],\"semantics\":{\"values\":[0,null],\"surfaces\":[{\"type\":\"\\u0052oofSurface\"}]},"
+    ++ ascii "\"boundaries\":[[[0,1,2]],[[2,1,0]]],\"lod\":\"2\\u002e1\",\"type\":\"MultiSurface\"}],\"parents\":[\"house\"],\"type\":\"BuildingPart\"}},"
     ++ ascii "\"transform\":{\"translate\":[0e3,1E1,-5.0],\"scale\":[1e-3,10.00e-4,0.0010]},\"version\":\"2.0\",\"type\":\"CityJSON\",\"+extra\":null}"
 
 -- ---- alike

@@ -1,19 +1,19 @@
 -- Bytes one at a time: what the code's tests of a byte say, and what one byte more does to the definitions.
-use Prim.Native.Nat.{ℕ, zero, suc, ◌+◌, ◌-◌, ◌*◌, ◌^◌, ◌/◌, ◌≤◌, ◌<◌}
+use Prim.Native.Nat.{ℕ, ◌+◌, ◌-◌, ◌*◌, ◌^◌, ◌/◌, ◌≤◌, ◌<◌}
 use native.Mathlib.Omega.{arith}
 use native.Mathlib.Numerals.{add-one}
 use mathlib.Core.Path.{◌≡◌, refl, sym, ap, ◌∙◌}
 use mathlib.Core.Logic.{◌⊎◌, inl, inr}
-use mathlib.Core.Bool.{Bool, true, false, cond, not}
+use mathlib.Core.Bool.{Bool, true, false, cond, not, ◌&&◌, ◌||◌}
 use mathlib.Core.List.{List, [], ◌∷◌, ◌++◌}
-use lib.ListN.{length, get_or, take, take-append-drop}
-use lib.Seq.{slice, slice-cons, slice_empty, take-take}
+use lib.ListN.{length, get_or}
+use lib.Seq.{slice, slice-cons, slice_empty}
 use lib.Dec.{eqb}
-use borrow.Author.Tests.{eq-eqb, ne_eqb, le-leb, lt-leb, not-true, not-false}
+use borrow.Author.Tests.{ne_eqb, le-leb, lt-leb, not-true, not-false}
 use borrow.Author.Rules.{rules}
 use Rattle.utf8.specs.Ascii.{is_digit}
-use Rattle.numerals.specs.Numerals.{before, is_point, is_letter, digits, natural, negative}
-use Rattle.numerals.specs.Laws.{digit_low, digit-high, before-yes, before-no}
+use Rattle.numerals.specs.Numerals.{is_point, is_letter, is_integer, digits, natural, negative}
+use Rattle.numerals.specs.Laws.{digit_low, digit-high}
 use Rattle.numerals.specs.Reading.{saturated}
 
 -- ---- the kinds of byte
@@ -63,23 +63,25 @@ module _ (text : List ℕ) (i end : ℕ) (h : i < end) (k : end ≤ length text)
 pub slice_out : (text : List ℕ) (i end : ℕ) → i ≤ end → end ≤ i → slice i end text ≡ []
 slice_out text i end h k = let e : i ≡ end = omega arith in rw e (slice_empty end text)
 
--- the bytes up to m and those from there on
-pub slice-join : (f m t : ℕ) (l : List ℕ) → f ≤ m → m ≤ t → slice f t l ≡ slice f m l ++ slice m t l
-slice-join zero m t l h k = sym (ap (λ a. a ++ slice m t l) (sym (take-take m t l k)) ∙ take-append-drop m (take t l))
-slice-join (suc f) zero t l h k = absurd (omega arith)
-slice-join (suc f) (suc m) zero l h k = absurd (omega arith)
-slice-join (suc f) (suc m) (suc t) [] h k = refl
-slice-join (suc f) (suc m) (suc t) (b ∷ l) h k = slice-join f m t l (omega arith) (omega arith)
+-- ---- integers
 
--- and one byte more at the end
-pub slice-last : (text : List ℕ) (at i : ℕ) → at ≤ i → i < length text → slice at (i + 1) text ≡ slice at i text ++ (get_or text i 0 ∷ [])
-slice-last text at i h k =
-    slice-join at i (i + 1) text h (omega arith)
-    ∙ ap (λ l. slice at i text ++ l) (slice-next text i (i + 1) (omega arith) (omega arith) ∙ ap (λ l. get_or text i 0 ∷ l) (slice_empty (i + 1) text))
-
--- ---- digits
+pub or-true : (p : Bool) → p || true ≡ true
+or-true true = refl
+or-true false = refl
 
 module _ (b : ℕ) (s : List ℕ) where
+  integer-point : b ≡ 46 → is_integer (b ∷ s) ≡ false
+  unfolding is_integer
+  integer-point e = rw e
+
+  integer-letter : true ≡ is_letter b → is_integer (b ∷ s) ≡ false
+  unfolding is_integer
+  integer-letter e = ap (λ t. not (is_point b || t) && is_integer s) (sym e) ∙ rw or-true
+
+  integer-more : (b ≡ 46 → ⊥) → false ≡ is_letter b → is_integer (b ∷ s) ≡ is_integer s
+  unfolding is_integer is_point
+  integer-more n e = rw (ne_eqb b 46 n, ← e)
+
   pub digits_more : true ≡ is_digit b → digits (b ∷ s) ≡ (b - 48) ∷ digits s
   unfolding digits
   digits_more e = ap (λ t. cond t ((b - 48) ∷ []) [] ++ digits s) (sym e)
@@ -87,6 +89,29 @@ module _ (b : ℕ) (s : List ℕ) where
   pub digits_same : false ≡ is_digit b → digits (b ∷ s) ≡ digits s
   unfolding digits
   digits_same e = ap (λ t. cond t ((b - 48) ∷ []) [] ++ digits s) (sym e)
+
+-- the bytes before i have no point and no letter
+pub record Plain (text : List ℕ) (at end i : ℕ) : Type 0 where
+  pub high : i ≤ end
+  pub same : is_integer (slice i end text) ≡ is_integer (slice at end text)
+
+pub plain-start : (text : List ℕ) (at end : ℕ) → at ≤ end → Plain text at end at
+plain-start text at end h = record { high = h; same = refl }
+
+module _ {text : List ℕ} {at end i : ℕ} (p : Plain text at end i) where
+  pub plain_end : end ≤ i → true ≡ is_integer (slice at end text)
+  unfolding is_integer
+  plain_end h = sym (ap is_integer (slice_out text i end p.high h)) ∙ p.same
+
+  module _ (h : i < end) (k : end ≤ length text) where
+    pub plain-point : get_or text i 0 ≡ 46 → false ≡ is_integer (slice at end text)
+    plain-point e = sym (integer-point (get_or text i 0) (slice (i + 1) end text) e) ∙ sym (ap is_integer (slice-next text i end h k)) ∙ p.same
+
+    pub plain-letter : true ≡ is_letter (get_or text i 0) → false ≡ is_integer (slice at end text)
+    plain-letter e = sym (integer-letter (get_or text i 0) (slice (i + 1) end text) e) ∙ sym (ap is_integer (slice-next text i end h k)) ∙ p.same
+
+    pub plain_more : (get_or text i 0 ≡ 46 → ⊥) → false ≡ is_letter (get_or text i 0) → Plain text at end (i + 1)
+    plain_more n e = record { high = omega arith; same = sym (integer-more (get_or text i 0) (slice (i + 1) end text) n e) ∙ sym (ap is_integer (slice-next text i end h k)) ∙ p.same }
 
 -- ---- a sign
 
@@ -109,54 +134,34 @@ natural-low n (d ∷ ds) = let h = natural-low (n * 10 + d) ds in omega arith
 pub record Counts (text : List ℕ) (at end n i : ℕ) : Type 0 where
   pub high : i ≤ end
   pub fits : n < 2 ^ 64
-  pub same : natural n (digits (before is_point (slice i end text))) ≡ natural 0 (digits (before is_point (slice at end text)))
+  pub same : natural n (digits (slice i end text)) ≡ natural 0 (digits (slice at end text))
 
 pub counts_start : (text : List ℕ) (at end : ℕ) → at ≤ end → Counts text at end 0 at
 counts_start text at end h = record { high = h; fits = omega arith; same = refl }
 
 module _ {text : List ℕ} {at end n i : ℕ} (p : Counts text at end n i) where
-  -- nothing is left before the point
-  counts_all : before is_point (slice i end text) ≡ [] → n ≡ saturated (slice at end text)
+  pub counts_end : end ≤ i → n ≡ saturated (slice at end text)
   unfolding saturated natural digits
-  counts_all h =
-      let e : natural n (digits (before is_point (slice i end text))) ≡ n = rw h in
+  counts_end h =
+      let e : natural n (digits (slice i end text)) ≡ n = rw (slice_out text i end p.high h) in
       let q = p.same in
-      let f = p.fits in
       omega arith
 
-  pub counts_end : end ≤ i → n ≡ saturated (slice at end text)
-  unfolding before
-  counts_end h = counts_all (rw (slice_out text i end p.high h))
-
   module _ (h : i < end) (k : end ≤ length text) where
-    pub counts-point : get_or text i 0 ≡ 46 → n ≡ saturated (slice at end text)
-    unfolding is_point
-    counts-point e = counts_all (ap (before is_point) (slice-next text i end h k) ∙ before-yes is_point _ _ (eq-eqb (get_or text i 0) 46 e))
+    pub counts_same : false ≡ is_digit (get_or text i 0) → Counts text at end n (i + 1)
+    counts_same e = record { high = omega arith; fits = p.fits; same = sym (ap (natural n) (ap digits (slice-next text i end h k) ∙ digits_same _ _ e)) ∙ p.same }
 
-    module _ (o : get_or text i 0 ≡ 46 → ⊥) where
-      -- one byte more before the point
-      next : before is_point (slice i end text) ≡ get_or text i 0 ∷ before is_point (slice (i + 1) end text)
-      unfolding is_point
-      next = ap (before is_point) (slice-next text i end h k) ∙ before-no is_point _ _ (ne_eqb (get_or text i 0) 46 o)
+    counts-digit : true ≡ is_digit (get_or text i 0) → natural (n * 10 + (get_or text i 0 - 48)) (digits (slice (i + 1) end text)) ≡ natural 0 (digits (slice at end text))
+    unfolding natural
+    counts-digit e = sym (ap (natural n) (ap digits (slice-next text i end h k) ∙ digits_more _ _ e)) ∙ p.same
 
-      pub counts_same : false ≡ is_digit (get_or text i 0) → Counts text at end n (i + 1)
-      counts_same e = record { high = omega arith; fits = p.fits; same = sym (ap (natural n) (ap digits next ∙ digits_same _ _ e)) ∙ p.same }
+    module _ (e : true ≡ is_digit (get_or text i 0)) {d : ℕ} (q : d ≡ get_or text i 0 - 48) where
+      pub counts-more : n ≤ (18446744073709551615 - d) / 10 → Counts text at end (n * 10 + d) (i + 1)
+      counts-more l = record { high = omega arith; fits = omega (arith, digit-high (get_or text i 0) e); same = rw q (counts-digit e) }
 
-      counts-digit : true ≡ is_digit (get_or text i 0)
-          → natural (n * 10 + (get_or text i 0 - 48)) (digits (before is_point (slice (i + 1) end text))) ≡ natural 0 (digits (before is_point (slice at end text)))
-      unfolding natural
-      counts-digit e = sym (ap (natural n) (ap digits next ∙ digits_more _ _ e)) ∙ p.same
-
-      module _ (e : true ≡ is_digit (get_or text i 0)) {d : ℕ} (q : d ≡ get_or text i 0 - 48) where
-        pub counts-more : n ≤ (18446744073709551615 - d) / 10 → Counts text at end (n * 10 + d) (i + 1)
-        counts-more l = record { high = omega arith; fits = omega (arith, digit-high (get_or text i 0) e); same = rw q (counts-digit e) }
-
-        pub counts-large : (18446744073709551615 - d) / 10 < n → 18446744073709551615 ≡ saturated (slice at end text)
-        unfolding saturated
-        counts-large l =
-            let w = natural-low (n * 10 + (get_or text i 0 - 48)) (digits (before is_point (slice (i + 1) end text))) in
-            let z = counts-digit e in
-            omega (arith, digit-high (get_or text i 0) e)
+      pub counts-large : (18446744073709551615 - d) / 10 < n → 18446744073709551615 ≡ saturated (slice at end text)
+      unfolding saturated
+      counts-large l = let w = natural-low (n * 10 + (get_or text i 0 - 48)) (digits (slice (i + 1) end text)) in let z = counts-digit e in omega (arith, digit-high (get_or text i 0) e)
 
 pub ruleset bytes = (
   rules,
@@ -171,11 +176,15 @@ pub ruleset bytes = (
   no-letter,
   digit_low,
   digit-high,
+  plain-start,
+  plain_end,
+  plain-point,
+  plain-letter,
+  plain_more,
   no_sign,
   a-sign,
   counts_start,
   counts_end,
-  counts-point,
   counts_same,
   counts-more,
   counts-large,

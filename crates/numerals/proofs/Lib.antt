@@ -1,6 +1,5 @@
 -- What the proofs of several functions use.
 mod Bytes
-mod Integers
 mod Short
 mod Wholes
 mod Powers

@@ -17,8 +17,8 @@ use mir.Facts.{to_z-of_z}
 use borrow.Author.Tests.{eq-eqb, ne_eqb, le-leb, lt-leb, lt-ltb, le-ltb, ltb-true, ltb-false}
 use borrow.Author.Rules.{rules}
 use Rattle.utf8.specs.Ascii.{is_digit}
-use Rattle.numerals.specs.Numerals.{Decimal, Trimmed, more, trimmed, is_point, is_letter, digits, natural, negative, signed, before, after, mantissa, places, exponent, scaled, decimal, in_range, pair_of}
-use Rattle.numerals.specs.Laws.{digit-point, after-no, after-yes, natAbs-signed}
+use Rattle.numerals.specs.Numerals.{Decimal, Trimmed, more, trimmed, is_point, is_letter, digits, natural, negative, signed, after, mantissa, places, exponent, scaled, decimal, in_range, pair_of}
+use Rattle.numerals.specs.Laws.{digit_low, after-no, after-yes, natAbs-signed}
 use Rattle.numerals.specs.Reading.{pair_in, saturated, IsWhole, digit, taken, sums, nothing, IsRead, Reads, Reaches, power_of}
 use Rattle.numerals.specs.declared.Numeral.TheVariants.{Pair, Out}
 use Rattle.numerals.specs.declared.Whole.{Whole}
@@ -61,10 +61,14 @@ unfolding digit
 digit-places s zero = (refl, refl)
 digit-places s (suc d) = (refl, refl)
 
+point-digit : (b : ℕ) → is_digit b ≡ true → is_point b ≡ false
+unfolding is_point
+point-digit b e = let l = digit_low b (sym e) in ne_eqb b 46 (omega arith)
+
 module _ (b : ℕ) (l : List ℕ) where
   tail-digit : (t : Bool) (n : ℕ) → is_digit b ≡ true → (n + cond t 1 0) + length (digits (tail t l)) ≡ n + length (digits (tail t (b ∷ l)))
   tail-digit true n e = let q = ap length (digits_more b l (sym e)) in omega arith
-  tail-digit false n e = ap (λ k. k + length (digits (after is_point l))) (add-zero n) ∙ ap (λ k. n + length (digits k)) (sym (after-no is_point b l (digit-point b (sym e))))
+  tail-digit false n e = ap (λ k. k + length (digits (after is_point l))) (add-zero n) ∙ ap (λ k. n + length (digits k)) (sym (after-no is_point b l (point-digit b e)))
 
   tail-other : (t y : Bool) → is_point b ≡ y → is_digit b ≡ false → length (digits (tail (t || y) l)) ≡ length (digits (tail t (b ∷ l)))
   tail-other true y q e = ap length (sym (digits_same b l (sym e)))
@@ -152,7 +156,7 @@ pair-none raw d e r = sym (ap (λ t. cond (in_range t) (some t) none) e ∙ ap (
 module _ (raw : List ℕ) (s : Sum) (e : s ≡ sums nothing (mantissa raw)) where
   -- the power that its parts give
   exact : ℤ
-  exact = power_of s.zeros s.places (negative (after is_letter raw)) (natural 0 (digits (before is_point (after is_letter raw))))
+  exact = power_of s.zeros s.places (negative (after is_letter raw)) (natural 0 (digits (after is_letter raw)))
 
   decimal-scaled : decimal raw ≡ scaled (negative raw) (trim_of s) (exponent raw -ℤ pos s.places)
   unfolding decimal
@@ -209,7 +213,7 @@ module _ (text : List ℕ) (at end : ℕ) {r : Mantissa} {s : Sum} {next : ℕ} 
     minus = negative (after is_letter (slice at end text))
 
     size : ℕ
-    size = natural 0 (digits (before is_point (after is_letter (slice at end text))))
+    size = natural 0 (digits (after is_letter (slice at end text)))
 
     read-power : ℤ
     read-power = power_of s.zeros s.places w.negative w.magnitude

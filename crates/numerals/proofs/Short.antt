@@ -1,29 +1,133 @@
--- Short integers: few digits, so that no number is out of range.
+-- Short integers: digits alone, and few of them.
 use Prim.Native.Nat.{ℕ, zero, suc, ◌+◌, ◌-◌, ◌*◌, ◌^◌, ◌≤◌, ◌<◌}
 use native.Mathlib.Omega.{arith}
-use native.Mathlib.Nat.{pow-le-pow_right}
+use native.Mathlib.Nat.{pow-suc, pow-le-pow_right, mul-le-mul_right, mul_assoc, mul_comm, le_trans}
 use mathlib.Core.Path.{◌≡◌, refl, sym, ap, ◌∙◌}
 use mathlib.Core.Bool.{Bool, true, false, cond, ◌&&◌, and-false}
-use mathlib.Core.List.{List, [], ◌∷◌, ◌++◌, append-nil}
+use mathlib.Core.List.{List, [], ◌∷◌, ◌++◌}
 use lib.ListN.{length, get_or}
-use lib.Seq.{slice, slice_empty, length-slice}
-use lib.Dec.{leb, ltb}
+use lib.Seq.{slice, length-slice}
+use lib.Dec.{eqb, ltb}
 use lib.IntN.{pos}
 use mir.Syntax.{w64}
 use mir.Val.{Fits}
-use borrow.Author.Tests.{leb-true, lt-ltb, le-ltb}
+use borrow.Author.Tests.{ne_eqb, eq-eqb, lt-ltb, le-ltb}
 use Rattle.utf8.specs.Ascii.{is_digit}
-use Rattle.utf8.specs.Laws.{never, both_left}
-use Rattle.numerals.specs.Numerals.{before, is_point, all_digits, is_unsigned, is_integer, integer, digits, natural, negative, signed, fits32}
-use Rattle.numerals.specs.Laws.{digit-high, digit-other, digits-first, natural-small, before-all}
-use Rattle.numerals.specs.Laws as laws
-use Rattle.numerals.specs.Parts.{digits-++}
-use Rattle.numerals.specs.Integers.{natural-++}
-use Rattle.numerals.specs.Reading.{Digits, is_zero_fraction, quick_of, is_short, Quick, Short}
-use Rattle.numerals.proofs.Bytes.{slice-next, slice-join, slice-last, digits_more}
-use Rattle.numerals.proofs.Integers.{integers, all-digits-++, digits-lack, Digital, digital-start, digital-more, before-is, before-sign, integer-is, minus-low}
+use Rattle.utf8.specs.Laws.{never}
+use Rattle.numerals.specs.Numerals.{is_point, is_letter, is_integer, integer, digits, natural, negative, signed, fits32}
+use Rattle.numerals.specs.Laws.{digit-high}
+use Rattle.numerals.specs.Reading.{all_digits, quick_of, is_short, Quick, Short}
+use Rattle.numerals.proofs.Bytes.{bytes, slice-next, slice_out, digits_more}
 
--- ---- few digits write a small number
+-- a digit is no sign, no point and no letter
+module _ (b : ℕ) (e : true ≡ is_digit b) where
+  other : (k : ℕ) → is_digit k ≡ false → eqb b k ≡ false
+  other k f = ne_eqb b k (λ q. never (sym f ∙ ap is_digit (sym q) ∙ sym e) refl)
+
+  digit-point : is_point b ≡ false
+  unfolding is_point is_digit
+  digit-point = other 46 refl
+
+  digit-letter : is_letter b ≡ false
+  unfolding is_letter is_digit
+  digit-letter = rw (other 101 refl, other 69 refl)
+
+both : (p q : Bool) → p && q ≡ true → (p ≡ true) × (q ≡ true)
+both true q e = (refl, e)
+both false q e = absurd (never e refl)
+
+pub digits-whole : (raw : List ℕ) → all_digits raw ≡ true → is_integer raw ≡ true
+unfolding all_digits is_integer
+digits-whole [] e = refl
+digits-whole (b ∷ s) e = let h = both (is_digit b) (all_digits s) e in rw (digit-point b (sym h.0), digit-letter b (sym h.0)) (digits-whole s h.1)
+
+digits-plus : (raw : List ℕ) → all_digits raw ≡ true → negative raw ≡ false
+unfolding all_digits negative is_digit
+digits-plus [] e = refl
+digits-plus (b ∷ s) e = other b (sym (both (is_digit b) (all_digits s) e).0) 45 refl
+
+pub digits-value : (raw : List ℕ) (n : ℕ) → all_digits raw ≡ true → n ≡ natural 0 (digits raw) → integer raw ≡ pos n
+unfolding integer signed
+digits-value raw n e q = rw (digits-plus raw e, q)
+
+-- ---- the bytes before i are digits
+
+pub record Digital (text : List ℕ) (at end i : ℕ) : Type 0 where
+  pub high : i ≤ end
+  pub same : all_digits (slice i end text) ≡ all_digits (slice at end text)
+
+pub digital-start : (text : List ℕ) (at end : ℕ) → at ≤ end → Digital text at end at
+digital-start text at end h = record { high = h; same = refl }
+
+module _ {text : List ℕ} {at end i : ℕ} (p : Digital text at end i) where
+  pub digital-end : end ≤ i → true ≡ all_digits (slice at end text)
+  unfolding all_digits
+  digital-end h = sym (ap all_digits (slice_out text i end p.high h)) ∙ p.same
+
+  module _ (h : i < end) (k : end ≤ length text) where
+    first : is_digit (get_or text i 0) && all_digits (slice (i + 1) end text) ≡ all_digits (slice at end text)
+    unfolding all_digits
+    first = sym (ap all_digits (slice-next text i end h k)) ∙ p.same
+
+    pub digital-not : false ≡ is_digit (get_or text i 0) → false ≡ all_digits (slice at end text)
+    digital-not e = ap (λ t. t && all_digits (slice (i + 1) end text)) e ∙ first
+
+    pub digital-more : true ≡ is_digit (get_or text i 0) → Digital text at end (i + 1)
+    digital-more e = record { high = omega arith; same = ap (λ t. t && all_digits (slice (i + 1) end text)) e ∙ first }
+
+-- ---- and write n, which has no more digits than they
+
+pub record Quickly (text : List ℕ) (at end n i : ℕ) : Type 0 where
+  pub plain : Digital text at end i
+  pub low : at ≤ i
+  pub few : n < 10 ^ (i - at)
+  pub same : natural n (digits (slice i end text)) ≡ natural 0 (digits (slice at end text))
+
+pub quickly-start : (text : List ℕ) (at end : ℕ) → at ≤ end → Quickly text at end 0 at
+quickly-start text at end h = let z : at - at ≡ 0 = omega arith in record { plain = digital-start text at end h; low = omega arith; few = rw z (omega arith); same = refl }
+
+-- a number that is none
+quick-none : (raw : List ℕ) → ltb (length raw) 10 && all_digits raw ≡ false → Quick raw 18446744073709551615
+unfolding quick_of
+quick-none raw e = record { is = rw e; whole = λ l. absurd (omega arith); value = λ l. absurd (omega arith) }
+
+pub quick-long : (text : List ℕ) (at end : ℕ) → end ≤ length text → 9 < end - at → Quick (slice at end text) 18446744073709551615
+quick-long text at end k h = quick-none (slice at end text) (rw (le-ltb (length (slice at end text)) 10 (omega (arith, length-slice at end text k))))
+
+module _ {text : List ℕ} {at end n i : ℕ} (p : Quickly text at end n i) where
+  pub quickly-other : i < end → end ≤ length text → false ≡ is_digit (get_or text i 0) → Quick (slice at end text) 18446744073709551615
+  quickly-other h k e = quick-none (slice at end text) (rw (← digital-not p.plain h k e) (and-false (ltb (length (slice at end text)) 10)))
+
+  pub quickly-end : end ≤ i → end - at ≤ 9 → end ≤ length text → Quick (slice at end text) n
+  unfolding digits natural quick_of
+  quickly-end h s k =
+      let e : natural n (digits (slice i end text)) ≡ n = rw (slice_out text i end p.plain.high h) in
+      let a = sym (digital-end p.plain h) in
+      let l : ltb (length (slice at end text)) 10 ≡ true = lt-ltb (length (slice at end text)) 10 (omega (arith, length-slice at end text k)) in
+      record { is = rw (l, a) (sym e ∙ p.same); whole = λ l. digits-whole (slice at end text) a; value = λ l. digits-value (slice at end text) n a (sym e ∙ p.same) }
+
+  module _ (h : i < end) (s : end - at ≤ 9) where
+    quickly-small : n < 1000000000
+    quickly-small = let w = pow-le-pow_right {n = 10} (omega arith) {i = i - at} {j = 9} (omega (arith, p.low)) in omega (arith, p.few)
+
+    pub quickly-times : Fits w64 (n * 10)
+    quickly-times = record { fits = omega (arith, quickly-small) }
+
+    pub quickly-plus : true ≡ is_digit (get_or text i 0) → {d : ℕ} → d ≡ get_or text i 0 - 48 → Fits w64 (n * 10 + d)
+    quickly-plus e q = record { fits = omega (arith, quickly-small, digit-high (get_or text i 0) e) }
+
+    pub quickly-more : end ≤ length text → true ≡ is_digit (get_or text i 0) → {d : ℕ} → d ≡ get_or text i 0 - 48 → Quickly text at end (n * 10 + d) (i + 1)
+    unfolding natural
+    quickly-more k e {d} q =
+        let z : i + 1 - at ≡ suc (i - at) = omega (arith, p.low) in
+        record {
+          plain = digital-more p.plain h k e;
+          low = omega (arith, p.low);
+          few = rw (z, pow-suc) (omega (arith, p.few, digit-high (get_or text i 0) e));
+          same = rw q (sym (ap (natural n) (ap digits (slice-next text i end h k) ∙ digits_more _ _ e)) ∙ p.same);
+        }
+
+-- ---- a short numeral is small
 
 digits-length : (s : List ℕ) → length (digits s) ≤ length s
 unfolding digits
@@ -34,11 +138,26 @@ digits-length (b ∷ s) = by-test (is_digit b) (digits-length s)
     by-test true h = omega arith
     by-test false h = omega arith
 
--- no more than the bytes
-bounded : (s : List ℕ) (k : ℕ) → length s ≤ k → natural 0 (digits s) < 10 ^ k
-bounded s k h =
-    let w = pow-le-pow_right {n = 10} (omega arith) {i = length (digits s)} {j = k} (omega (arith, digits-length s)) in
-    omega (arith, natural-small 0 (digits s) (laws.small s))
+natural-small : (n : ℕ) (s : List ℕ) → natural n (digits s) < (n + 1) * 10 ^ length (digits s)
+unfolding digits natural
+natural-small n [] = omega arith
+natural-small n (b ∷ s) = by-test (is_digit b) refl (natural-small n s) (natural-small (n * 10 + (b - 48)) s)
+  where
+    by-test : (y : Bool) → is_digit b ≡ y → natural n (digits s) < (n + 1) * 10 ^ length (digits s)
+        → natural (n * 10 + (b - 48)) (digits s) < (n * 10 + (b - 48) + 1) * 10 ^ length (digits s)
+        → natural n (cond y ((b - 48) ∷ []) [] ++ digits s) < (n + 1) * 10 ^ length (cond y ((b - 48) ∷ []) [] ++ digits s)
+    by-test true e f g =
+        let l = length (digits s) in
+        let d : n * 10 + (b - 48) + 1 ≤ (n + 1) * 10 = omega (arith, digit-high b (sym e)) in
+        let h : natural (n * 10 + (b - 48)) (digits s) < (n + 1) * 10 * 10 ^ l = le_trans g (mul-le-mul_right (10 ^ l) d) in
+        let q : (n + 1) * 10 * 10 ^ l ≡ (n + 1) * 10 ^ suc l = mul_assoc (n + 1) 10 (10 ^ l) ∙ ap (λ (k : ℕ). (n + 1) * k) (mul_comm 10 (10 ^ l) ∙ sym (pow-suc 10 l)) in
+        rw q at h
+    by-test false e f g = f
+
+short-number : (raw : List ℕ) → length raw ≤ 9 → natural 0 (digits raw) < 2 ^ 31
+short-number raw h =
+    let w = pow-le-pow_right {n = 10} (omega arith) {i = length (digits raw)} {j = 9} (omega (arith, digits-length raw)) in
+    omega (arith, natural-small 0 raw)
 
 small-fits : (neg : Bool) (n : ℕ) → n < 2 ^ 31 → fits32 (signed neg n) ≡ true
 unfolding signed fits32
@@ -46,138 +165,69 @@ small-fits true zero l = refl
 small-fits true (suc n) l = lt-ltb n (2 ^ 31) (omega arith)
 small-fits false n l = lt-ltb n (2 ^ 31) l
 
--- ---- `quick`
+short-fits : (raw : List ℕ) → length raw ≤ 9 → fits32 (integer raw) ≡ true
+unfolding integer
+short-fits raw h = small-fits (negative raw) (natural 0 (digits raw)) (short-number raw h)
 
--- digits alone are an integer with no sign
-module _ (raw : List ℕ) (e : all_digits raw ≡ true) where
-  digits-plus : negative raw ≡ false
-  unfolding negative is_digit all_digits
-  digits-plus = of raw e
-    where
-      of : (l : List ℕ) → all_digits l ≡ true → negative l ≡ false
-      of [] q = refl
-      of (b ∷ s) q = digit-other b (sym (both_left (is_digit b) _ q)) 45 refl
+-- bytes that are none
+short_none : (raw : List ℕ) → is_short raw ≡ false → Short raw false
+short_none raw e = record { is = sym e; whole = λ e. absurd (never e refl); fits = λ e. absurd (never e refl) }
 
-  digits-whole : is_integer raw ≡ true
-  unfolding is_integer is_unsigned
-  digits-whole = rw digits-plus (ap is_unsigned (sym (append-nil raw)) ∙ digits-first raw [] e)
+long-not : (raw : List ℕ) → 9 < length raw → is_short raw ≡ false
+unfolding is_short
+long-not [] h = refl
+long-not (b ∷ s) h = rw (le-ltb (length (b ∷ s)) 10 (omega arith))
 
-  digits-value : integer raw ≡ pos (natural 0 (digits raw))
-  unfolding integer signed
-  digits-value = rw (digits-plus, before-all (digits-lack raw e))
+pub short-long : (text : List ℕ) (at end : ℕ) → end ≤ length text → 9 < end - at → Short (slice at end text) false
+short-long text at end k h = short_none (slice at end text) (long-not (slice at end text) (omega (arith, length-slice at end text k)))
 
--- the digits before i write n
-pub record Quickly (text : List ℕ) (at end n i : ℕ) : Type 0 where
-  pub plain : Digital text at end i
-  pub value : n ≡ natural 0 (digits (slice at i text))
+pub short-empty : (text : List ℕ) (at end : ℕ) → at ≡ end → Short (slice at end text) false
+unfolding is_short
+short-empty text at end q = short_none (slice at end text) (ap is_short (slice_out text at end (omega arith) (omega arith)))
 
-pub quickly-start : (text : List ℕ) (at end : ℕ) → at ≤ end → Quickly text at end 0 at
-unfolding natural digits
-quickly-start text at end h = record { plain = digital-start text at end h; value = rw (slice_empty at text) }
+module _ (text : List ℕ) (at end : ℕ) (k : end ≤ length text) (s : end - at ≤ 9) (h : at ≤ end) (n : at ≡ end → ⊥) where
+  fits-so : fits32 (integer (slice at end text)) ≡ true
+  fits-so = short-fits (slice at end text) (omega (arith, length-slice at end text k))
 
--- a number that is none
-quick-none : (raw : List ℕ) → ltb (length raw) 10 && all_digits raw ≡ false → Quick raw 18446744073709551615
-unfolding quick_of
-quick-none raw e = record { is = rw e; whole = λ l. absurd (omega arith); value = λ l. absurd (omega arith) }
+  next : slice at end text ≡ get_or text at 0 ∷ slice (at + 1) end text
+  next = slice-next text at end (omega arith) k
 
-pub quick-long : (text : List ℕ) (at end : ℕ) {n : ℕ} → n < end - at → leb 9 n ≡ true → end ≤ length text → Quick (slice at end text) 18446744073709551615
-quick-long text at end {n} h m k =
-    quick-none (slice at end text) (rw (le-ltb (length (slice at end text)) 10 (omega (arith, leb-true 9 n m, length-slice at end text k))))
+  few : ltb (length (get_or text at 0 ∷ slice (at + 1) end text)) 10 ≡ true
+  few = lt-ltb (length (get_or text at 0 ∷ slice (at + 1) end text)) 10 (omega (arith, length-slice at end text k, ap length next))
 
-module _ {text : List ℕ} {at end n i : ℕ} (p : Quickly text at end n i) (k : end ≤ length text) where
-  pub quickly-other : i < end → false ≡ is_digit (get_or text i 0) → Quick (slice at end text) 18446744073709551615
-  unfolding all_digits
-  quickly-other h e =
-      let l = slice-join at i end text p.plain.low p.plain.high ∙ ap (λ s. slice at i text ++ s) (slice-next text i end h k) in
-      let a : all_digits (slice at end text) ≡ false =
-      ap all_digits l ∙ all-digits-++ (slice at i text) _ p.plain.digits ∙ ap (λ t. t && all_digits (slice (i + 1) end text)) (sym e) in
-      quick-none (slice at end text) (rw a (and-false (ltb (length (slice at end text)) 10)))
+  pub short-plus : {r : Bool} → (get_or text at 0 ≡ 45 → ⊥) → r ≡ all_digits (slice at end text) → Short (slice at end text) r
+  unfolding is_short
+  short-plus b e =
+      record {
+        is = e ∙ (ap all_digits next ∙ sym (ap is_short next ∙ rw (few, ne_eqb (get_or text at 0) 45 b)));
+        whole = λ q. digits-whole (slice at end text) (sym e ∙ q);
+        fits = λ q. fits-so;
+      }
 
-  module _ (s : end - at ≤ 9) where
-    pub quickly-end : end ≤ i → Quick (slice at end text) n
-    unfolding quick_of
-    quickly-end h =
-        let z : i ≡ end = omega (arith, p.plain.high) in
-        let a : all_digits (slice at end text) ≡ true = rw z at p.plain.digits in
-        let v : n ≡ natural 0 (digits (slice at end text)) = rw z at p.value in
-        let l : ltb (length (slice at end text)) 10 ≡ true = lt-ltb (length (slice at end text)) 10 (omega (arith, length-slice at end text k)) in
-        record { is = rw (l, a) v; whole = λ q. digits-whole (slice at end text) a; value = λ q. rw v (digits-value (slice at end text) a) }
-
-    module _ (h : i < end) where
-      small : n < 1000000000
-      small =
-          let l = p.plain.low in
-          let e = p.value in
-          omega (arith, bounded (slice at i text) 9 (omega (arith, length-slice at i text (omega arith))))
-
-      pub quickly-times : Fits w64 (n * 10)
-      quickly-times = record { fits = omega (arith, small) }
-
-      module _ (e : true ≡ is_digit (get_or text i 0)) {d : ℕ} (q : d ≡ get_or text i 0 - 48) where
-        pub quickly-plus : Fits w64 (n * 10 + d)
-        quickly-plus = record { fits = omega (arith, small, digit-high (get_or text i 0) e) }
-
-        pub quickly-more : Quickly text at end (n * 10 + d) (i + 1)
-        unfolding natural digits
-        quickly-more =
-            let l = p.plain.low in
-            record {
-              plain = digital-more p.plain h k e;
-              value = rw (slice-last text at i l (omega arith), digits-++, digits_more (get_or text i 0) [] e, natural-++, q, p.value);
-            }
-
--- ---- `is_short`
-
-module _ (text : List ℕ) (at end : ℕ) (h : at ≤ end) (k : end ≤ length text) where
-  module _ {first stop : ℕ} (f : first ≡ at + cond (negative (slice at end text)) 1 0) (p : Digits text first end stop) where
-    -- the bytes before the point end where the digits end
-    before-length : is_zero_fraction (slice stop end text) ≡ true → length (before is_point (slice at end text)) ≡ stop - at
-    before-length e =
-        let a = minus-low text at end h k f in
-        let b = p.low in
-        let c = p.high in
-        let l = ap length (before-is p k e) ∙ length-slice first stop text (omega arith) in
-        omega (arith, before-sign text at end h k f)
-
-    pub short-low : at ≤ stop
-    short-low = omega (arith, minus-low text at end h k f, p.low)
-
-    pub short-long : 9 < stop - at → Short (slice at end text) false
-    unfolding is_short
-    short-long l = record { is = by-test (is_zero_fraction (slice stop end text)) refl; whole = λ e. absurd (never e refl); fits = λ e. absurd (never e refl) }
-      where
-        by-test : (y : Bool) → is_zero_fraction (slice stop end text) ≡ y → false ≡ is_short (slice at end text)
-        by-test true q = rw (le-ltb (length (before is_point (slice at end text))) 10 (omega (arith, before-length q))) (sym (and-false (is_integer (slice at end text))))
-        by-test false q = rw (← integer-is text at end h k f p (sym q))
-
-    pub short-is : stop - at ≤ 9 → {r : Bool} → r ≡ is_zero_fraction (slice stop end text) → Short (slice at end text) r
-    unfolding is_short integer
-    short-is l e = by-test (is_zero_fraction (slice stop end text)) refl e
-      where
-        by-test : (y : Bool) → is_zero_fraction (slice stop end text) ≡ y → {r : Bool} → r ≡ y → Short (slice at end text) r
-        by-test true q e =
-            let i = sym (integer-is text at end h k f p (sym q)) in
-            let b = before-length q in
-            rw e
-            (record {
-              is = rw (i, lt-ltb (length (before is_point (slice at end text))) 10 (omega arith));
-              whole = λ z. i;
-              fits = λ z. small-fits (negative (slice at end text)) _ (omega (arith, bounded (before is_point (slice at end text)) 9 (omega arith)));
-            })
-        by-test false q e =
-            rw e
-            (record { is = rw (← integer-is text at end h k f p (sym q)); whole = λ z. absurd (never z refl); fits = λ z. absurd (never z refl) })
+  pub short-minus : {r : Bool} → get_or text at 0 ≡ 45 → r ≡ all_digits (slice (at + 1) end text) → Short (slice at end text) r
+  unfolding is_short is_integer
+  short-minus b e =
+      record {
+        is = e ∙ sym (ap is_short next ∙ rw (few, eq-eqb (get_or text at 0) 45 b));
+        whole = λ q. rw (next, b) (digits-whole (slice (at + 1) end text) (sym e ∙ q));
+        fits = λ q. fits-so;
+      }
 
 pub ruleset short = (
-  integers,
-  quick-long,
+  bytes,
+  digital-start,
+  digital-end,
+  digital-not,
+  digital-more,
   quickly-start,
   quickly-other,
   quickly-end,
   quickly-times,
   quickly-plus,
   quickly-more,
-  short-low,
+  quick-long,
   short-long,
-  short-is,
+  short-empty,
+  short-plus,
+  short-minus,
 )

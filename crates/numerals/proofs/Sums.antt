@@ -3,7 +3,7 @@ use Prim.Native.Nat.{ℕ, zero, suc, ◌+◌, ◌-◌, ◌*◌, ◌^◌, ◌≤�
 use native.Mathlib.Omega.{arith}
 use native.Mathlib.Nat.{mul_assoc, mul-one, pow-succ', le-mul_of_pos_right, pow-le-pow_right, add-zero}
 use mathlib.Core.Path.{◌≡◌, refl, sym, ap, ◌∙◌}
-use mathlib.Core.Bool.{Bool, true, false, cond, ◌||◌, or-true}
+use mathlib.Core.Bool.{Bool, true, false, cond, ◌||◌}
 use mathlib.Core.List.{List, [], ◌∷◌}
 use lib.ListN.{length, get_or}
 use lib.Seq.{slice}
@@ -14,7 +14,7 @@ use Rattle.numerals.specs.Laws.{digit_low, digit-high, before-no, before-yes, af
 use Rattle.numerals.specs.Reading.{digit, taken, sums, nothing, capped, Room, Reads}
 use Rattle.numerals.specs.declared.Sum.{Sum}
 use Rattle.numerals.specs.declared.Mantissa.TheVariants.{Read, Large}
-use Rattle.numerals.proofs.Bytes.{bytes, is-digit, under-digit, slice-next, slice_out}
+use Rattle.numerals.proofs.Bytes.{bytes, or-true, is-digit, under-digit, slice-next, slice_out}
 
 -- ---- m, some zeros and a digit
 

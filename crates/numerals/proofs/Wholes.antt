@@ -11,7 +11,7 @@ use mir.Val.{Fits, SFits, to_z, of_z}
 use mir.Facts.{to_z_pos, to_z-of_z}
 use borrow.Author.Tests.{leb-true, leb-false, le-leb, lt-leb}
 use borrow.Author.Rules.{rules}
-use Rattle.numerals.specs.Numerals.{before, is_point, negative, signed, integer, fits32, is_below, natural, digits}
+use Rattle.numerals.specs.Numerals.{negative, signed, integer, fits32, is_below, natural, digits}
 use Rattle.numerals.specs.Reading.{saturated, IsWhole}
 use Rattle.numerals.specs.declared.Whole.{Whole}
 
@@ -63,29 +63,29 @@ fits-small false n e = let h = leb-true (suc n) 2147483648 (fits-false n ∙ e) 
 
 module _ {raw : List ℕ} {w : Whole} (h : IsWhole raw w) where
   -- an integer, by the sign that is known
-  known : (neg : Bool) → w.negative ≡ neg → signed neg (natural 0 (digits (before is_point raw))) ≡ integer raw
+  known : (neg : Bool) → w.negative ≡ neg → signed neg (natural 0 (digits raw)) ≡ integer raw
   unfolding integer
-  known neg e = ap (λ t. signed t (natural 0 (digits (before is_point raw)))) (sym e ∙ h.sign)
+  known neg e = ap (λ t. signed t (natural 0 (digits raw))) (sym e ∙ h.sign)
 
-  size : w.magnitude ≡ min (natural 0 (digits (before is_point raw))) (2 ^ 64 - 1)
+  size : w.magnitude ≡ min (natural 0 (digits raw)) (2 ^ 64 - 1)
   unfolding saturated
   size = h.size
 
   pub fits-minus : w.negative ≡ true → leb w.magnitude 2147483648 ≡ fits32 (integer raw)
-  fits-minus e = ap (λ n. leb n 2147483648) size ∙ leb-min (natural 0 (digits (before is_point raw))) (2 ^ 64 - 1) 2147483648 (omega arith) ∙ fits-true _ ∙ ap fits32 (known true e)
+  fits-minus e = ap (λ n. leb n 2147483648) size ∙ leb-min (natural 0 (digits raw)) (2 ^ 64 - 1) 2147483648 (omega arith) ∙ fits-true _ ∙ ap fits32 (known true e)
 
   pub fits-plus : w.negative ≡ false → ltb w.magnitude 2147483648 ≡ fits32 (integer raw)
-  fits-plus e = ap (λ n. ltb n 2147483648) size ∙ ltb-min (natural 0 (digits (before is_point raw))) (2 ^ 64 - 1) 2147483648 (omega arith) ∙ fits-false _ ∙ ap fits32 (known false e)
+  fits-plus e = ap (λ n. ltb n 2147483648) size ∙ ltb-min (natural 0 (digits raw)) (2 ^ 64 - 1) 2147483648 (omega arith) ∙ fits-false _ ∙ ap fits32 (known false e)
 
   module _ (count : ℕ) where
     pub below-minus : w.negative ≡ true → 0 < w.magnitude → false ≡ is_below count (integer raw)
-    below-minus e l = let q = size in below_true (natural 0 (digits (before is_point raw))) count (omega arith) ∙ ap (is_below count) (known true e)
+    below-minus e l = let q = size in below_true (natural 0 (digits raw)) count (omega arith) ∙ ap (is_below count) (known true e)
 
     pub below-minus-nought : w.negative ≡ true → w.magnitude ≤ 0 → ltb 0 count ≡ is_below count (integer raw)
-    below-minus-nought e l = let q = size in below-nought (natural 0 (digits (before is_point raw))) count (omega arith) ∙ ap (is_below count) (known true e)
+    below-minus-nought e l = let q = size in below-nought (natural 0 (digits raw)) count (omega arith) ∙ ap (is_below count) (known true e)
 
     pub below-plus : w.negative ≡ false → Fits w64 count → ltb w.magnitude count ≡ is_below count (integer raw)
-    below-plus e f = let g = f.fits in ap (λ n. ltb n count) size ∙ ltb-min (natural 0 (digits (before is_point raw))) (2 ^ 64 - 1) count (omega arith) ∙ below_false _ count ∙ ap (is_below count) (known false e)
+    below-plus e f = let g = f.fits in ap (λ n. ltb n count) size ∙ ltb-min (natural 0 (digits raw)) (2 ^ 64 - 1) count (omega arith) ∙ below_false _ count ∙ ap (is_below count) (known false e)
 
 -- ---- signed machine numbers
 
@@ -113,13 +113,13 @@ module _ (neg : Bool) (n : ℕ) (h : n < 2 ^ 63) where
 module _ {raw : List ℕ} {w : Whole} (h : IsWhole raw w) (f : fits32 (integer raw) ≡ true) where
   pub whole-small : w.magnitude < 9223372036854775808
   unfolding integer
-  whole-small = let q = size h in omega (arith, fits-small (negative raw) (natural 0 (digits (before is_point raw))) f)
+  whole-small = let q = size h in omega (arith, fits-small (negative raw) (natural 0 (digits raw)) f)
 
   pub whole_is : {z : ℤ} → z ≡ signed w.negative w.magnitude → to_z w64 (of_z w64 z) ≡ integer raw
   unfolding integer
   whole_is {z} e =
       let q = size h in
-      let n : w.magnitude ≡ natural 0 (digits (before is_point raw)) = omega (arith, fits-small (negative raw) (natural 0 (digits (before is_point raw))) f) in
-      rw e (to_z-of_z (signed-fits w.negative w.magnitude whole-small) ∙ ap (λ m. signed w.negative m) n ∙ ap (λ t. signed t (natural 0 (digits (before is_point raw)))) h.sign)
+      let n : w.magnitude ≡ natural 0 (digits raw) = omega (arith, fits-small (negative raw) (natural 0 (digits raw)) f) in
+      rw e (to_z-of_z (signed-fits w.negative w.magnitude whole-small) ∙ ap (λ m. signed w.negative m) n ∙ ap (λ t. signed t (natural 0 (digits raw))) h.sign)
 
 pub ruleset wholes = (rules, fits-minus, fits-plus, below-minus, below-minus-nought, below-plus, minus-fits, with-minus, with-plus, whole-small, whole_is)

@@ -1,5 +1,5 @@
 -- Worked examples of numerals: those of rule 13 and its limits, and of values.
-use Rattle.std.specs.Prelude.{◌≡◌, refl, pos, negsuc, nat_abs, true, false, [], ◌∷◌, map, replicate}
+use Rattle.std.specs.Prelude.{◌≡◌, refl, pos, negsuc, nat_abs, true, false}
 use Rattle.std.proofs.Common.{ap, arith}
 use Rattle.std.proofs.Math.Option.{none, some}
 use Rattle.utf8.specs.Ascii.{ascii}
@@ -42,20 +42,15 @@ sixteen-digits : pair_of (ascii "1000000000000001") ≡ none
 unfolding pair_of ascii
 sixteen-digits = refl
 
--- an integer may have a point and zeros after it, and no exponent part
-integers : map (λ t. is_integer (ascii t)) ("7" ∷ "-7" ∷ "102.0" ∷ "1.000" ∷ "0.0" ∷ "-0.0" ∷ []) ≡ replicate 6 true
-unfolding is_integer ascii
-integers = refl
-
-no-integers : map (λ t. is_integer (ascii t)) ("1.5" ∷ "1.01" ∷ "1.10" ∷ "1.0e0" ∷ "1.0E0" ∷ "1e0" ∷ "10e-1" ∷ []) ≡ replicate 7 false
-unfolding is_integer ascii
-no-integers = refl
-
-values : map (λ t. integer (ascii t)) ("102.0" ∷ "-3.000" ∷ "-0" ∷ "-0.0" ∷ []) ≡ pos 102 ∷ negsuc 2 ∷ pos 0 ∷ pos 0 ∷ []
+minus-nought-integer : integer (ascii "-0") ≡ pos 0
 unfolding integer ascii
-values = refl
+minus-nought-integer = refl
 
-minus-nought-below : is_below 1 (integer (ascii "-0.0")) ≡ true
+one-point-nought-integer : is_integer (ascii "1.0") ≡ false
+unfolding is_integer ascii
+one-point-nought-integer = refl
+
+minus-nought-below : is_below 1 (integer (ascii "-0")) ≡ true
 unfolding is_below integer ascii
 minus-nought-below = refl
 
@@ -63,11 +58,11 @@ minus-one-below : is_below 1 (integer (ascii "-1")) ≡ false
 unfolding is_below integer ascii
 minus-one-below = refl
 
-least-32 : fits32 (integer (ascii "-2147483648.00")) ≡ true
+least-32 : fits32 (integer (ascii "-2147483648")) ≡ true
 unfolding fits32 integer ascii
 least-32 = refl
 
-past-32 : fits32 (integer (ascii "2147483648.0")) ≡ false
+past-32 : fits32 (integer (ascii "2147483648")) ≡ false
 unfolding fits32 integer ascii
 past-32 = refl
 

@@ -1,15 +1,13 @@
 -- What the definitions of `Numerals` come to: the digits of a numeral write m times ten to the zeros (`meaning`); the pair of a numeral is (0, 0)
--- or has an m that is no multiple of ten (`canonical`, rule 13); and the value of the pair of an integer, with a point or without, is that
--- integer (`whole`).
-use Rattle.std.specs.Prelude.{ℕ, zero, suc, ◌+◌, ◌-◌, ◌*◌, ◌^◌, ◌%◌, ◌≤◌, ◌<◌, ◌≡◌, ◌⊎◌, Bool, cond, ◌&&◌, length, eqb, leb, ℤ, pos, neg_ℤ, nat_abs, ◌+ℤ◌, ◌-ℤ◌, ◌*ℤ◌}
+-- or has an m that is no multiple of ten (`canonical`, rule 13); and the value of the pair of an integer is that integer (`whole`).
+use Rattle.std.specs.Prelude.{ℕ, zero, suc, ◌+◌, ◌-◌, ◌*◌, ◌^◌, ◌%◌, ◌≤◌, ◌<◌, ◌≡◌, ◌⊎◌, Bool, cond, not, ◌&&◌, ◌||◌, eqb, leb, ℤ, pos, nat_abs, ◌-ℤ◌, ◌*ℤ◌}
 use Rattle.std.proofs.Math.Path.{refl, ap}
-use Rattle.std.proofs.Common.{sym, ◌∙◌, inl, inr, arith, add-zero, mul_assoc, mul_comm, pow-suc, mul-one, zero-mul, mul-le-mul_right, le_trans, add-one, eqb-true, leb-true, ne_eqb}
+use Rattle.std.proofs.Common.{sym, ◌∙◌, inl, inr, arith, add-zero, mul_assoc, pow-suc, mul-one, zero-mul, add-one, eqb-true, leb-true, ne_eqb}
 use Rattle.std.proofs.Math.Bool.{true, false}
-use mathlib.Core.List.{List, [], ◌∷◌, ◌++◌, append_assoc, append-nil}
-use Rattle.std.proofs.Math.IntN.{+ℤ_idl, +ℤ-neg_ℤ_cancel}
+use mathlib.Core.List.{List, [], ◌∷◌, ◌++◌, append-nil}
 use Rattle.utf8.specs.Ascii.{is_digit}
-use Rattle.utf8.specs.Laws.{clash, never, both_left, both_right}
-use Rattle.numerals.specs.Numerals.{Decimal, Trimmed, more, trimmed, none_yet, natural, digits, is_point, is_letter, all_zeros, all_digits, is_unsigned, is_integer, integer, before, after, mantissa, places, exponent, negative, signed, scaled, decimal, times_ten, whole_of}
+use Rattle.utf8.specs.Laws.{clash}
+use Rattle.numerals.specs.Numerals.{Decimal, Trimmed, more, trimmed, none_yet, natural, digits, is_point, is_letter, is_integer, integer, before, after, mantissa, places, exponent, negative, signed, scaled, decimal, times_ten, whole_of}
 
 -- ---- the digits write m times ten to the zeros
 
@@ -58,7 +56,7 @@ module _ (b : ℕ) (e : true ≡ is_digit b) where
   unfolding is_digit
   digit-high = (digit-bounds b (leb 48 b) (leb b 57) refl refl (sym e)).1
 
-pub small : (s : List ℕ) → Below10 (digits s)
+small : (s : List ℕ) → Below10 (digits s)
 unfolding digits
 small [] = tt
 small (b ∷ s) = by-test (is_digit b) refl (small s)
@@ -66,16 +64,6 @@ small (b ∷ s) = by-test (is_digit b) refl (small s)
     by-test : (y : Bool) → is_digit b ≡ y → Below10 (digits s) → Below10 (cond y ((b - 48) ∷ []) [] ++ digits s)
     by-test true e h = (digit-high b (sym e), h)
     by-test false e h = h
-
--- so many digits write a number below that power of ten
-pub natural-small : (n : ℕ) (ds : List ℕ) → Below10 ds → natural n ds < (n + 1) * 10 ^ length ds
-unfolding natural
-natural-small n [] h = omega arith
-natural-small n (d ∷ ds) h =
-    let l = length ds in
-    let b : n * 10 + d + 1 ≤ (n + 1) * 10 = omega (arith, h.0) in
-    let q : (n + 1) * 10 * 10 ^ l ≡ (n + 1) * 10 ^ suc l = mul_assoc (n + 1) 10 (10 ^ l) ∙ ap (λ (k : ℕ). (n + 1) * k) (mul_comm 10 (10 ^ l) ∙ sym (pow-suc 10 l)) in
-    rw q at (le_trans (natural-small (n * 10 + d) ds h.1) (mul-le-mul_right (10 ^ l) b))
 
 trim : (t : Trimmed) (ds : List ℕ) → Trim t.m → Below10 ds → Trim (trimmed t ds).m
 unfolding trimmed
@@ -138,7 +126,7 @@ module _ {test : ℕ → Bool} where
   after-past (lacks-more e h) s = after-no test _ _ e ∙ after-past h s
 
   -- if none passes, all bytes are before it and none after
-  pub before-all : {l : List ℕ} → Lacks test l → before test l ≡ l
+  before-all : {l : List ℕ} → Lacks test l → before test l ≡ l
   unfolding before
   before-all {l} h = rw (append-nil l) at (before-past h [])
 
@@ -146,106 +134,16 @@ module _ {test : ℕ → Bool} where
   unfolding after
   after-all {l} h = rw (append-nil l) at (after-past h [])
 
--- a digit is no minus sign, no point and no letter
-module _ (b : ℕ) (e : true ≡ is_digit b) where
-  pub digit-other : (k : ℕ) → is_digit k ≡ false → eqb b k ≡ false
-  digit-other k f = ne_eqb b k (λ q. never (sym f ∙ ap is_digit (sym q) ∙ sym e) refl)
+-- a byte of an integer is neither a point nor a letter
+clear : (p l i : Bool) → not (p || l) && i ≡ true → (p ≡ false) × (l ≡ false) × (i ≡ true)
+clear false false i e = (refl, refl, e)
+clear false true i e = clash cc
+clear true l i e = clash cc
 
-  pub digit-point : is_point b ≡ false
-  unfolding is_point is_digit
-  digit-point = digit-other 46 refl
-
-  pub digit-letter : is_letter b ≡ false
-  unfolding is_letter is_digit
-  digit-letter = rw (digit-other 101 refl, digit-other 69 refl)
-
--- one byte more of an integer without its sign
-module _ (b : ℕ) (s : List ℕ) where
-  pub unsigned-digit : true ≡ is_digit b → is_unsigned (b ∷ s) ≡ is_unsigned s
-  unfolding is_unsigned all_digits
-  unsigned-digit e = rw (before-no is_point b s (digit-point b e), after-no is_point b s (digit-point b e), ← e)
-
-  pub unsigned-point : is_point b ≡ true → is_unsigned (b ∷ s) ≡ all_zeros s
-  unfolding is_unsigned all_digits
-  unsigned-point e = rw (before-yes is_point b s e, after-yes is_point b s e)
-
-  pub unsigned-other : false ≡ is_digit b → is_point b ≡ false → is_unsigned (b ∷ s) ≡ false
-  unfolding is_unsigned all_digits
-  unsigned-other e f = rw (before-no is_point b s f, ← e)
-
--- and many digits
-pub digits-first : (l s : List ℕ) → all_digits l ≡ true → is_unsigned (l ++ s) ≡ is_unsigned s
-unfolding all_digits
-digits-first [] s e = refl
-digits-first (b ∷ l) s e = unsigned-digit b (l ++ s) (sym (both_left (is_digit b) _ e)) ∙ digits-first l s (both_right (is_digit b) _ e)
-
--- an integer has no letter, and only zeros after its point
-zeros-lack : (z : List ℕ) → all_zeros z ≡ true → Lacks is_letter z
-unfolding all_zeros is_letter
-zeros-lack [] e = lacks-nil
-zeros-lack (b ∷ z) e = lacks-more {b = b} (rw (eqb-true b 48 (both_left (eqb b 48) _ e))) (zeros-lack z (both_right (eqb b 48) _ e))
-
-abbrev pub NoExponent : List ℕ → Type 0
-NoExponent s = Lacks is_letter s × (all_zeros (after is_point s) ≡ true)
-
-unsigned-plain : (s : List ℕ) → is_unsigned s ≡ true → NoExponent s
-unfolding all_zeros after is_point is_letter
-unsigned-plain [] e = (lacks-nil, refl)
-unsigned-plain (b ∷ s) e = by_kind (is_digit b) (is_point b) refl refl (unsigned-plain s)
-  where
-    by_kind : (d p : Bool) → is_digit b ≡ d → is_point b ≡ p → (is_unsigned s ≡ true → NoExponent s) → NoExponent (b ∷ s)
-    by_kind true p q r further =
-        let h = further (sym (unsigned-digit b s (sym q)) ∙ e) in
-        (lacks-more (digit-letter b (sym q)) h.0, rw (after-no is_point b s (digit-point b (sym q))) h.1)
-    by_kind false true q r further =
-        let z = sym (unsigned-point b s r) ∙ e in
-        (lacks-more {b = b} (rw (eqb-true b 46 r)) (zeros-lack s z), rw (after-yes is_point b s r) z)
-    by_kind false false q r further = absurd (never (sym (unsigned-other b s (sym q) r) ∙ e) refl)
-
-pub plain : (raw : List ℕ) → is_integer raw ≡ true → NoExponent raw
-unfolding is_integer negative is_point is_letter after
-plain [] e = unsigned-plain [] e
-plain (b ∷ s) e = by_sign (eqb b 45) refl e
-  where
-    by_sign : (y : Bool) → eqb b 45 ≡ y → is_unsigned (cond y s (b ∷ s)) ≡ true → NoExponent (b ∷ s)
-    by_sign true q h = let r = unsigned-plain s h in rw (eqb-true b 45 q) (lacks-more refl r.0, r.1)
-    by_sign false q h = unsigned-plain (b ∷ s) h
-
--- digits, with those after the point behind those before it
-split-point : (s : List ℕ) → digits s ≡ digits (before is_point s) ++ digits (after is_point s)
-unfolding digits before after is_point is_digit
-split-point [] = refl
-split-point (b ∷ s) = by-test (is_point b) refl (split-point s)
-  where
-    by-test : (y : Bool) → is_point b ≡ y → digits s ≡ digits (before is_point s) ++ digits (after is_point s)
-        → digits (b ∷ s) ≡ digits (before is_point (b ∷ s)) ++ digits (after is_point (b ∷ s))
-    by-test true e h = rw (before-yes is_point b s e, after-yes is_point b s e, eqb-true b 46 e)
-    by-test false e h =
-        rw (before-no is_point b s e, after-no is_point b s e, h)
-        (sym (append_assoc (cond (is_digit b) ((b - 48) ∷ []) []) (digits (before is_point s)) (digits (after is_point s))))
-
-trimmed-++ : (t : Trimmed) (a b : List ℕ) → trimmed t (a ++ b) ≡ trimmed (trimmed t a) b
-unfolding trimmed
-trimmed-++ t [] b = refl
-trimmed-++ t (d ∷ a) b = trimmed-++ (more t d) a b
-
--- zeros are dropped and counted
-abbrev longer : Trimmed → ℕ → Trimmed
-longer t k = record { m = t.m; zeros = t.zeros + k }
-
-trimmed-zeros : (t : Trimmed) (z : List ℕ) → all_zeros z ≡ true → trimmed t (digits z) ≡ longer t (length (digits z))
-unfolding trimmed digits all_zeros is_digit
-trimmed-zeros t [] e = rw add-zero
-trimmed-zeros t (b ∷ z) e =
-    rw (eqb-true b 48 (both_left (eqb b 48) _ e))
-    (trimmed-zeros (more t 0) z (both_right (eqb b 48) _ e) ∙ ap (λ n. record { m = t.m; zeros = n }) (omega arith))
-
--- and change nothing where as many digits stand after the point
-scaled-longer : (neg : Bool) (t : Trimmed) (k : ℕ) → scaled neg (longer t k) (pos 0 -ℤ pos k) ≡ scaled neg t (pos 0)
-unfolding scaled
-scaled-longer neg t k =
-    ap (λ e. cond (eqb t.m 0) (record { m = pos 0; e = pos 0 }) (record { m = signed neg t.m; e = e }))
-    (ap (λ z. pos (t.zeros + k) +ℤ z) (+ℤ_idl (neg_ℤ (pos k))) ∙ +ℤ-neg_ℤ_cancel (pos t.zeros) (pos k) ∙ ap pos (sym (add-zero t.zeros)))
+plain : (raw : List ℕ) → is_integer raw ≡ true → Lacks is_point raw × Lacks is_letter raw
+unfolding is_integer
+plain [] e = (lacks-nil, lacks-nil)
+plain (b ∷ s) e = let c = clear (is_point b) (is_letter b) (is_integer s) e in let h = plain s c.2 in (lacks-more c.0 h.0, lacks-more c.1 h.1)
 
 -- zero has no sign
 pub zero-signed : (neg : Bool) → pos 0 ≡ signed neg 0
@@ -269,26 +167,14 @@ whole_scaled neg t = by_cases t.m (eqb t.m 0) refl
     by_cases m true e = rw (eqb-true m 0 e, zero-mul (10 ^ t.zeros)) (zero-signed neg)
     by_cases m false e = rw add-zero (times-signed neg m (10 ^ t.zeros))
 
--- the pair of an integer is that of its digits before the point
-pub before-point : (raw : List ℕ) → is_integer raw ≡ true
-    → decimal raw ≡ scaled (negative raw) (trimmed none_yet (digits (before is_point raw))) (pos 0)
-unfolding decimal integer
-before-point raw e =
-    let h = plain raw e in
-    let z = after is_point raw in
-    let t = trimmed none_yet (digits (before is_point raw)) in
-    parts raw (before-all h.0) (after-all h.0)
-    ∙ ap (λ t. scaled (negative raw) t (pos 0 -ℤ pos (length (digits z))))
-    (ap (trimmed none_yet) (split-point raw) ∙ trimmed-++ none_yet (digits (before is_point raw)) (digits z) ∙ trimmed-zeros t z h.1)
-    ∙ scaled-longer (negative raw) t (length (digits z))
-  where
-    parts : (raw : List ℕ) → before is_letter raw ≡ raw → after is_letter raw ≡ []
-        → decimal raw ≡ scaled (negative raw) (trimmed none_yet (digits raw)) (pos 0 -ℤ pos (length (digits (after is_point raw))))
-    parts raw b a = rw (b, a)
-
--- the value of an integer's pair, m times ten to the e, is that integer
+-- a numeral with no fraction and no exponent: its pair, m times ten to the e, is the integer that its digits write
 pub whole : (raw : List ℕ) → is_integer raw ≡ true → whole_of (decimal raw) ≡ integer raw
-unfolding integer
+unfolding decimal integer
 whole raw e =
-    let ds = digits (before is_point raw) in
-    ap whole_of (before-point raw e) ∙ whole_scaled (negative raw) (trimmed none_yet ds) ∙ ap (signed (negative raw)) (sym (meaning ds))
+    let h = plain raw e in
+    ap whole_of (parts raw (before-all h.1) (after-all h.1) (after-all h.0)) ∙ whole_scaled (negative raw) (trimmed none_yet (digits raw))
+    ∙ ap (signed (negative raw)) (sym (meaning (digits raw)))
+  where
+    parts : (raw : List ℕ) → before is_letter raw ≡ raw → after is_letter raw ≡ [] → after is_point raw ≡ []
+        → decimal raw ≡ scaled (negative raw) (trimmed none_yet (digits raw)) (pos 0)
+    parts raw b a p = rw (b, a, p)

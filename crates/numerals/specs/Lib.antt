@@ -5,4 +5,3 @@ pub mod Laws
 pub mod Reading
 pub mod Values
 pub mod Parts
-pub mod Integers

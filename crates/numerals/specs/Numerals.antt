@@ -1,6 +1,6 @@
 -- JSON numerals by their value (RFC 8259, section 6; docs/RULES.md, rules 12 and 13). The definitions take any bytes; what they make of bytes
 -- that are no numeral matters nowhere.
-use Rattle.std.specs.Prelude.{ℕ, zero, suc, ◌+◌, ◌-◌, ◌*◌, ◌^◌, Bool, true, false, cond, ◌&&◌, ◌||◌, List, [], ◌∷◌, ◌++◌, length, get_or, drop, eqb, leb, ltb, ℤ, pos, negsuc, neg_ℤ, nat_abs, ◌+ℤ◌, ◌-ℤ◌, ◌*ℤ◌}
+use Rattle.std.specs.Prelude.{ℕ, zero, suc, ◌+◌, ◌-◌, ◌*◌, ◌^◌, Bool, true, false, cond, not, ◌&&◌, ◌||◌, List, [], ◌∷◌, ◌++◌, length, get_or, eqb, leb, ltb, ℤ, pos, negsuc, neg_ℤ, nat_abs, ◌+ℤ◌, ◌-ℤ◌, ◌*ℤ◌}
 use Rattle.std.proofs.Math.Option.{Option, none, some}
 use Rattle.utf8.specs.Ascii.{is_digit}
 
@@ -46,29 +46,16 @@ signed false n = pos n
 
 -- ---- integers
 
-unfoldable pub all_digits : List ℕ → Bool
-unfolding is_digit
-all_digits [] = true
-all_digits (b ∷ s) = is_digit b && all_digits s
-
-unfoldable pub all_zeros : List ℕ → Bool
-all_zeros [] = true
-all_zeros (b ∷ s) = eqb b 48 && all_zeros s
-
--- "digits, then nothing or a point and zeros only": what may follow the minus
-unfoldable pub is_unsigned : List ℕ → Bool
-unfolding all_digits all_zeros before after is_point
-is_unsigned s = all_digits (before is_point s) && all_zeros (after is_point s)
-
--- rule 12, as request P5 amends it: "a minus or none, digits, then nothing or a point and zeros only, with no exponent part"
+-- rule 12: "An integer is a JSON number with no fraction and no exponent part"
 unfoldable pub is_integer : List ℕ → Bool
-unfolding is_unsigned negative
-is_integer raw = is_unsigned (cond (negative raw) (drop 1 raw) raw)
+unfolding is_point is_letter
+is_integer [] = true
+is_integer (b ∷ s) = not (is_point b || is_letter b) && is_integer s
 
--- the value of an integer, by the digits before the point: "`-0.0` is zero"
+-- the value of an integer; -0 is 0
 unfoldable pub integer : List ℕ → ℤ
-unfolding before is_point digits natural negative signed
-integer raw = signed (negative raw) (natural 0 (digits (before is_point raw)))
+unfolding digits natural negative signed
+integer raw = signed (negative raw) (natural 0 (digits raw))
 
 -- does an integer lie from -2^31 to 2^31 - 1, as 32 signed bits hold it?
 unfoldable pub fits32 : ℤ → Bool
@@ -105,8 +92,8 @@ unfolding mantissa after is_point digits
 places raw = length (digits (after is_point (mantissa raw)))
 
 unfoldable pub exponent : List ℕ → ℤ
-unfolding after is_letter integer
-exponent raw = integer (after is_letter raw)
+unfolding after is_letter digits natural negative signed
+exponent raw = signed (negative (after is_letter raw)) (natural 0 (digits (after is_letter raw)))
 
 abbrev pub none_yet : Trimmed
 none_yet = record { m = 0; zeros = 0 }

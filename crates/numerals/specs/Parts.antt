@@ -8,7 +8,7 @@ use Rattle.std.proofs.Math.Nat.{add-sub_cancel_left}
 use Rattle.std.proofs.Math.ListN.{length}
 use Rattle.utf8.specs.Ascii.{ascii, is_digit}
 use Rattle.numerals.specs.Numerals.{Decimal, before, after, is_point, is_letter, digits, natural, negative, signed, integer, mantissa, places, exponent}
-use Rattle.numerals.specs.Laws.{Below10, Lacks, before-no, before-past, before-all, after-past}
+use Rattle.numerals.specs.Laws.{Below10, Lacks, before-past, after-past}
 use Rattle.numerals.specs.Laws.Lacks.{lacks-nil, lacks-more}
 use Rattle.numerals.specs.Values.{as_written}
 
@@ -143,7 +143,7 @@ lacks-fraction no_fraction h = lacks-nil
 lacks-fraction (point d) h = lacks-more refl (lacks-digits not-letter (values_of d) h)
 
 -- the digits among the bytes of each part
-pub digits-++ : (a b : List ℕ) → digits (a ++ b) ≡ digits a ++ digits b
+digits-++ : (a b : List ℕ) → digits (a ++ b) ≡ digits a ++ digits b
 unfolding digits
 digits-++ [] b = refl
 digits-++ (c ∷ a) b = rw (digits-++ a b) (sym (append_assoc (cond (is_digit c) ((c - 48) ∷ []) []) (digits a) (digits b)))
@@ -183,13 +183,10 @@ before-exponent (power true s d) = refl
 before-exponent (power false s d) = refl
 
 integer-sign : (s : Sign) (d : Digits) → Below10 (values_of d) → integer (sign_bytes s ++ digit_bytes d) ≡ signed (is_minus s) (natural 0 (values_of d))
-unfolding integer sign_bytes digit_bytes is_point
-integer-sign s d h = of s (before-all {test = is_point} (lacks-digits not-point (values_of d) h))
-  where
-    of : (s : Sign) → before is_point (digit_bytes d) ≡ digit_bytes d → integer (sign_bytes s ++ digit_bytes d) ≡ signed (is_minus s) (natural 0 (values_of d))
-    of minus e = ap (λ l. signed true (natural 0 (digits l))) (before-no is_point 45 (digit_bytes d) refl) ∙ ap (λ l. signed true (natural 0 l)) (ap digits e ∙ digits-map (values_of d) h)
-    of plus e = ap (λ l. signed false (natural 0 (digits l))) (before-no is_point 43 (digit_bytes d) refl) ∙ ap (λ l. signed false (natural 0 l)) (ap digits e ∙ digits-map (values_of d) h)
-    of no_sign e = rw (not-minus d.first) (ap (λ l. signed false (natural 0 l)) (ap digits e ∙ digits-map (values_of d) h))
+unfolding integer sign_bytes digit_bytes
+integer-sign minus d h = ap (λ l. signed true (natural 0 l)) (digits-map (values_of d) h)
+integer-sign plus d h = ap (λ l. signed false (natural 0 l)) (digits-map (values_of d) h)
+integer-sign no_sign d h = rw (not-minus d.first) (ap (λ l. signed false (natural 0 l)) (digits-map (values_of d) h))
 
 exponent-alone : (x : Exponent) → ExponentDigits x → exponent (exponent_bytes x) ≡ exponent_value x
 unfolding exponent integer exponent_bytes
@@ -221,7 +218,7 @@ module _ (p : Parts) (h : Sound p) where
   unfolding exponent integer bytes_of
   exponent-is = ap integer (after-past no-letter (exponent_bytes p.exp)) ∙ exponent-alone p.exp h.exp
 
-  pub negative-is : negative (bytes_of p) ≡ p.negative
+  negative-is : negative (bytes_of p) ≡ p.negative
   unfolding bytes_of
   negative-is = negative-whole p.negative p.int (fraction_bytes p.frac) (exponent_bytes p.exp)
 

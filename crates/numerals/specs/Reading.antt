@@ -1,10 +1,10 @@
 -- What the functions of the crate say of one another: the answer of `pair`, numbers that stop at the greatest that a machine word holds, and the digits of a
 -- numeral read one byte at a time.
-use Rattle.std.specs.Prelude.{ℕ, zero, suc, ◌+◌, ◌-◌, ◌*◌, ◌^◌, ◌≤◌, ◌<◌, min, ◌≡◌, Bool, true, false, cond, ◌&&◌, ◌||◌, List, [], ◌∷◌, length, get_or, ltb, ℤ, pos, nat_abs, ◌+ℤ◌, ◌-ℤ◌}
+use Rattle.std.specs.Prelude.{ℕ, zero, suc, ◌+◌, ◌-◌, ◌*◌, ◌^◌, ◌≤◌, ◌<◌, min, ◌≡◌, Bool, true, false, cond, ◌&&◌, ◌||◌, List, [], ◌∷◌, length, eqb, ltb, ℤ, pos, nat_abs, ◌+ℤ◌, ◌-ℤ◌}
 use Rattle.std.proofs.Math.Option.{Option, none, some}
 use Rattle.std.proofs.Math.Seq.{slice}
 use Rattle.utf8.specs.Ascii.{is_digit}
-use Rattle.numerals.specs.Numerals.{Decimal, is_point, is_letter, all_digits, all_zeros, is_integer, integer, fits32, digits, natural, negative, signed, mantissa, before, after}
+use Rattle.numerals.specs.Numerals.{Decimal, is_point, is_letter, is_integer, integer, fits32, digits, natural, negative, signed, mantissa, after}
 use Rattle.numerals.specs.declared.Numeral.{Numeral}
 use Rattle.numerals.specs.declared.Numeral.TheVariants.{Pair, Out}
 use Rattle.numerals.specs.declared.Whole.{Whole}
@@ -19,38 +19,31 @@ unfoldable pub pair_in : Numeral → Option Decimal
 pair_in (Pair m e) = some (record { m = m; e = e })
 pair_in Out = none
 
--- the number that the digits before the point write, or 2^64 - 1 if it is greater
+-- the number that the digits among the bytes write, or 2^64 - 1 if it is greater
 unfoldable pub saturated : List ℕ → ℕ
-unfolding digits natural before is_point
-saturated raw = min (natural 0 (digits (before is_point raw))) (2 ^ 64 - 1)
+unfolding digits natural
+saturated raw = min (natural 0 (digits raw)) (2 ^ 64 - 1)
 
 -- an integer as sign and magnitude, the magnitude being at most 2^64 - 1
 pub record IsWhole (raw : List ℕ) (w : Whole) : Type 0 where
   pub sign : w.negative ≡ negative raw
   pub size : w.magnitude ≡ saturated raw
 
--- r is where the digits end that stand from at on
-pub record Digits (text : List ℕ) (at end r : ℕ) : Type 0 where
-  pub low : at ≤ r
-  pub high : r ≤ end
-  pub digits : all_digits (slice at r text) ≡ true
-  pub stop : r < end → is_digit (get_or text r 0) ≡ false
-
--- nothing, or a point and zeros only
-unfoldable pub is_zero_fraction : List ℕ → Bool
-unfolding is_point all_zeros
-is_zero_fraction [] = true
-is_zero_fraction (b ∷ s) = is_point b && all_zeros s
+-- no byte but digits
+unfoldable pub all_digits : List ℕ → Bool
+all_digits [] = true
+all_digits (b ∷ s) = is_digit b && all_digits s
 
 -- the number that at most nine digits write; 2^64 - 1 for other bytes
 unfoldable pub quick_of : List ℕ → ℕ
 unfolding all_digits digits natural
 quick_of raw = cond (ltb (length raw) 10 && all_digits raw) (natural 0 (digits raw)) (2 ^ 64 - 1)
 
--- is it an integer with at most nine bytes before its point, its sign among them?
+-- is it a minus sign, or none, and digits, at most nine bytes in all?
 unfoldable pub is_short : List ℕ → Bool
-unfolding is_integer before is_point
-is_short raw = is_integer raw && ltb (length (before is_point raw)) 10
+unfolding all_digits
+is_short [] = false
+is_short (b ∷ s) = ltb (length (b ∷ s)) 10 && cond (eqb b 45) (all_digits s) (all_digits (b ∷ s))
 
 -- r is that number, and the value of an integer unless it is 2^64 - 1
 pub record Quick (raw : List ℕ) (r : ℕ) : Type 0 where

@@ -35,7 +35,7 @@ times-times (negsuc n) a b = times-signed true (suc n * a) b ∙ ap (λ i. neg_�
 times_power : (z : ℤ) (i t : ℕ) → z *ℤ pos (10 ^ (i + t)) ≡ z *ℤ pos (10 ^ i) *ℤ pos (10 ^ t)
 times_power z i t = ap (λ c. z *ℤ pos c) (pow-add 10 i t) ∙ sym (times-times z (10 ^ i) (10 ^ t))
 
-pub natAbs-times : (z : ℤ) (c : ℕ) → nat_abs (z *ℤ pos c) ≡ nat_abs z * c
+natAbs-times : (z : ℤ) (c : ℕ) → nat_abs (z *ℤ pos c) ≡ nat_abs z * c
 unfolding signed
 natAbs-times (pos n) c = refl
 natAbs-times (negsuc n) c = natAbs-signed true (suc n * c)
@@ -58,7 +58,7 @@ module _ (c : ℕ) (h : 0 < c) where
       ap negsuc (omega (arith, eq_of_mul-eq-mul_right c h (suc m) (suc n) d))
 
 -- ten to any power is not zero
-pub ten-pos : (i : ℕ) → 0 < 10 ^ i
+ten-pos : (i : ℕ) → 0 < 10 ^ i
 ten-pos i = one-le-pow i 10 (omega arith)
 
 -- ---- to have one value is an equivalence
@@ -111,7 +111,7 @@ value-trans {a} {b} {c} s t =
 abbrev pair : ℤ → ℤ → Decimal
 pair m e = record { m = m; e = e }
 
-pub value-scaled : (neg : Bool) (t : Trimmed) (e : ℤ) (n : ℕ) → n ≡ t.m * 10 ^ t.zeros → SameValue (pair (signed neg n) e) (scaled neg t e)
+value-scaled : (neg : Bool) (t : Trimmed) (e : ℤ) (n : ℕ) → n ≡ t.m * 10 ^ t.zeros → SameValue (pair (signed neg n) e) (scaled neg t e)
 unfolding scaled
 value-scaled neg t e n h = let (k, i, w) = whole-at e in by k i w (eqb t.m 0) refl
   where

@@ -1,11 +1,11 @@
 // JSON numerals (RFC 8259, section 6) by their value: integers, and pairs (m, e) that mean m times ten to the e.
 // A numeral is given by the text and two offsets, `at` of its first byte and `end` past its last.
-ghost use Rattle.std.specs.Prelude.{◌+◌, ◌-◌, ◌*◌, ◌^◌, ◌≤◌, ◌<◌, min, true, cond, ◌≡◌, length, eqb};
+ghost use Rattle.std.specs.Prelude.{◌+◌, ◌-◌, ◌*◌, ◌^◌, ◌≤◌, ◌<◌, min, true, cond, ◌≡◌, length};
 ghost use Rattle.std.proofs.Math.Seq.{slice};
 ghost use Rattle.std.proofs.Math.IntN.{sub_ℕ};
 ghost use Rattle.utf8.specs.Ascii.{is_digit};
 ghost use Rattle.numerals.specs.Numerals as spec;
-ghost use Rattle.numerals.specs.Reading.{pair_in, saturated, IsWhole, Digits, is_zero_fraction, Quick, Short, taken, capped, Room, Reads, Reaches, power_of};
+ghost use Rattle.numerals.specs.Reading.{pair_in, saturated, IsWhole, all_digits, Quick, Short, taken, capped, Room, Reads, Reaches, power_of};
 
 // The pair of a numeral, or that it has none in range.
 #[derive(Drop)]
@@ -54,13 +54,6 @@ fn is_digit(b: u8) -> bool
     }
 }
 
-// Is it a zero?
-fn is_zero(b: u8) -> bool
-    ensures { result ≡ eqb b 48 }
-{
-    b == b'0'
-}
-
 // Is it the letter before an exponent?
 fn is_letter(b: u8) -> bool
     ensures { result ≡ spec.is_letter b }
@@ -69,6 +62,25 @@ fn is_letter(b: u8) -> bool
         b'e' | b'E' => true,
         _ => false,
     }
+}
+
+// Has the numeral no fraction and no exponent?
+pub fn is_integer(text: &[u8], at: usize, end: usize) -> bool
+    requires { (at ≤ end) × (end ≤ length text.now) }
+    ensures { result ≡ spec.is_integer (slice at end text.now) }
+{
+    let mut i = at;
+    while i < end {
+        let b = text[i];
+        if b == b'.' {
+            return false;
+        }
+        if is_letter(b) {
+            return false;
+        }
+        i += 1;
+    }
+    true
 }
 
 // Does a minus sign come first?
@@ -83,74 +95,6 @@ fn is_negative(text: &[u8], at: usize, end: usize) -> bool
     b == b'-'
 }
 
-// Past a minus sign that comes first.
-fn after_minus(text: &[u8], at: usize, end: usize) -> usize
-    requires { (at ≤ end) × (end ≤ length text.now) }
-    ensures { result ≡ at + cond (spec.negative (slice at end text.now)) 1 0 }
-{
-    if is_negative(text, at, end) {
-        return at + 1;
-    }
-    at
-}
-
-// Past the digits.
-fn digits_end(text: &[u8], at: usize, end: usize) -> usize
-    requires { (at ≤ end) × (end ≤ length text.now) }
-    ensures { Digits text.now at end result }
-{
-    let mut i = at;
-    while i < end {
-        let b = text[i];
-        if !is_digit(b) {
-            return i;
-        }
-        i += 1;
-    }
-    i
-}
-
-// Are all bytes zeros?
-fn all_zeros(text: &[u8], at: usize, end: usize) -> bool
-    requires { (at ≤ end) × (end ≤ length text.now) }
-    ensures { result ≡ spec.all_zeros (slice at end text.now) }
-{
-    let mut i = at;
-    while i < end {
-        let b = text[i];
-        if !is_zero(b) {
-            return false;
-        }
-        i += 1;
-    }
-    true
-}
-
-// Is there nothing, or a point and zeros only?
-fn is_zero_fraction(text: &[u8], at: usize, end: usize) -> bool
-    requires { (at ≤ end) × (end ≤ length text.now) }
-    ensures { result ≡ is_zero_fraction (slice at end text.now) }
-{
-    if at == end {
-        return true;
-    }
-    let b = text[at];
-    if b != b'.' {
-        return false;
-    }
-    all_zeros(text, at + 1, end)
-}
-
-// Is the numeral an integer: a minus or none, digits, then nothing or a point and zeros only?
-pub fn is_integer(text: &[u8], at: usize, end: usize) -> bool
-    requires { (at ≤ end) × (end ≤ length text.now) }
-    ensures { result ≡ spec.is_integer (slice at end text.now) }
-{
-    let first = after_minus(text, at, end);
-    let stop = digits_end(text, first, end);
-    is_zero_fraction(text, stop, end)
-}
-
 // The value of a digit.
 fn value(b: u8) -> u64
     requires { 48 ≤ b }
@@ -159,7 +103,7 @@ fn value(b: u8) -> u64
     (b - b'0') as u64
 }
 
-// The number that the digits before the point write, at most 2^64 - 1.
+// The number that the digits write, at most 2^64 - 1.
 fn magnitude(text: &[u8], at: usize, end: usize) -> u64
     requires { (at ≤ end) × (end ≤ length text.now) }
     ensures { result ≡ saturated (slice at end text.now) }
@@ -168,9 +112,6 @@ fn magnitude(text: &[u8], at: usize, end: usize) -> u64
     let mut i = at;
     while i < end {
         let b = text[i];
-        if b == b'.' {
-            return n;
-        }
         i += 1;
         if !is_digit(b) {
             continue;
@@ -249,17 +190,38 @@ pub fn quick(text: &[u8], at: usize, end: usize) -> u64
     n
 }
 
-// Is it an integer with at most nine bytes before its point? Then it lies within 32 signed bits.
+// Are all bytes digits?
+fn all_digits(text: &[u8], at: usize, end: usize) -> bool
+    requires { (at ≤ end) × (end ≤ length text.now) }
+    ensures { result ≡ all_digits (slice at end text.now) }
+{
+    let mut i = at;
+    while i < end {
+        let b = text[i];
+        if !is_digit(b) {
+            return false;
+        }
+        i += 1;
+    }
+    true
+}
+
+// Is it a numeral of at most nine bytes with no fraction and no exponent? Then it is an integer that lies within 32 signed bits.
 pub fn is_short(text: &[u8], at: usize, end: usize) -> bool
     requires { (at ≤ end) × (end ≤ length text.now) }
     ensures { Short (slice at end text.now) result }
 {
-    let first = after_minus(text, at, end);
-    let stop = digits_end(text, first, end);
-    if stop - at > 9 {
+    if end - at > 9 {
         return false;
     }
-    is_zero_fraction(text, stop, end)
+    if at == end {
+        return false;
+    }
+    let b = text[at];
+    if b == b'-' {
+        return all_digits(text, at + 1, end);
+    }
+    all_digits(text, at, end)
 }
 
 // A number with a sign.

@@ -3,7 +3,6 @@
 
 use std::collections::BTreeMap;
 
-use crate::json::{self, Node};
 use crate::model::{Geometry, Model, Object};
 use crate::words;
 
@@ -31,7 +30,6 @@ impl Coverage {
         let shared = model.objects.iter().any(|object| object.parents.len() > 1);
         self.count_if("links", shared, "several parents");
         self.add_spelling(text);
-        self.add_points(&json::read(text).expect("an accepted text").root);
     }
 
     fn count(&mut self, heading: &'static str, name: &str) {
@@ -85,25 +83,6 @@ impl Coverage {
         self.count_if("spellings", !usual, "another member first");
     }
 
-    /// Counts the kinds of place at which an integer has a point.
-    fn add_points(&mut self, root: &Node) {
-        let objects = root.member("CityObjects").map_or(&[][..], Node::members);
-        let geometries = || {
-            let objects = objects.iter().map(|member| &member.value);
-            let arrays = objects.filter_map(|object| object.member("geometry"));
-            arrays.flat_map(Node::items)
-        };
-        let mut boundaries = geometries().filter_map(|geometry| geometry.member("boundaries"));
-        let mut values = geometries()
-            .filter_map(|geometry| geometry.member("semantics"))
-            .filter_map(|semantics| semantics.member("values"));
-        let heading = "integers with a point";
-        let vertices = root.member("vertices").is_some_and(has_point);
-        self.count_if(heading, vertices, "coordinates");
-        self.count_if(heading, boundaries.any(has_point), "indices");
-        self.count_if(heading, values.any(has_point), "values");
-    }
-
     /// How many names stand under a heading, and the least count of one.
     pub fn least(&self, heading: &str) -> (usize, u64) {
         let Some(counts) = self.counts.get(heading) else {
@@ -124,12 +103,6 @@ impl Coverage {
         };
         self.counts.iter().map(line).collect()
     }
-}
-
-/// Whether a number in nested arrays has a point.
-fn has_point(node: &Node) -> bool {
-    let pointed = node.numeral().is_some_and(|numeral| numeral.contains('.'));
-    pointed || node.items().iter().any(has_point)
 }
 
 /// Whether some object has children over this many links, on which no object stands twice.

@@ -4,7 +4,7 @@
 use super::draft::{anything, draft, Body, Draft, Entry, Role};
 use super::city_model::{city_model, fresh_id, geometry};
 use super::random::Random;
-use super::spelling::{spell, zero_fraction, Style};
+use super::spelling::{spell, Style};
 use crate::model::{Model, Object};
 use crate::words;
 use crate::{Refusal, TEXT_LIMIT};
@@ -518,7 +518,7 @@ fn not_carried(draft: &mut Draft, random: &mut Random) -> Option<()> {
 
 /// Rule 12: one of the shapes wrong.
 fn wrong_shape(draft: &mut Draft, random: &mut Random) -> Option<()> {
-    match random.below(10) {
+    match random.below(8) {
         0 => wrong_count(draft, random, &|value| value.role == Role::TransformArray),
         1 => wrong_vertex(draft, random),
         2 => {
@@ -532,7 +532,7 @@ fn wrong_shape(draft: &mut Draft, random: &mut Random) -> Option<()> {
         }
         3 => {
             let others = [
-                "null", "0.5", "0e0", "0E0", "\"0\"", "[]", "[0]", "{}", "true", "-0.5",
+                "null", "0.0", "0e0", "0E0", "\"0\"", "[]", "[0]", "{}", "true", "-0.0",
             ];
             swap_raw(
                 draft,
@@ -554,7 +554,7 @@ fn wrong_shape(draft: &mut Draft, random: &mut Random) -> Option<()> {
             )
         }
         6 => {
-            let others = ["0.5", "0e0", "1E0", "\"0\"", "[]", "[null]", "{}", "false"];
+            let others = ["0.0", "0e0", "1E0", "\"0\"", "[]", "[null]", "{}", "false"];
             swap_raw(
                 draft,
                 random,
@@ -562,8 +562,7 @@ fn wrong_shape(draft: &mut Draft, random: &mut Random) -> Option<()> {
                 &others,
             )
         }
-        7 => wrong_element(draft, random),
-        _ => no_integer(draft, random),
+        _ => wrong_element(draft, random),
     }
 }
 
@@ -607,55 +606,16 @@ fn wrong_vertex(draft: &mut Draft, random: &mut Random) -> Option<()> {
         "[]",
         "[0,0]",
         "[0,0,0,0]",
-        "[0.0,0.0]",
-        "[0,0,0.5]",
+        "[0,0,0.0]",
         "[0,1e0,0]",
         "[null,0,0]",
         "[0,\"0\",0]",
         "[0,0,[0]]",
         "\"000\"",
+        "[0,0,-0.0]",
         "[99999999999,0,0.5]",
-        "[99999999999.0,0,0.5]",
     ];
     swap_raw(draft, random, &|value| value.role == Role::Vertex, &others)
-}
-
-/// Writes a coordinate, an index or a value as no integer, and marks it; for a coordinate the
-/// vertex.
-fn no_integer(draft: &mut Draft, random: &mut Random) -> Option<()> {
-    let kind = random.below(3);
-    let wanted = |value: &Draft| match value.role {
-        Role::Vertex => kind == 0,
-        Role::Index(_) => kind == 1,
-        Role::Value(_) => kind == 2,
-        _ => false,
-    };
-    let (value, _) = draft.pick(random, &wanted)?;
-    value.mark = Some(0);
-    let number = match value.items() {
-        Some(coordinates) => coordinates.get_mut(random.below(3))?,
-        None => value,
-    };
-    let whole = match number.body {
-        Body::Integer(whole) => whole,
-        _ => 0,
-    };
-    number.body = Body::Raw(format!("{whole}{}", wrong_end(random)));
-    Some(())
-}
-
-/// What makes an integer none: a digit other than 0 late after the point, or an exponent
-/// part, also after a point and zeros.
-fn wrong_end(random: &mut Random) -> String {
-    let zeros = "0".repeat(*random.pick(&[0, 1, 2, 7, 30, 300]));
-    let digit = random.between(1, 9);
-    let exponent = *random.pick(&["e0", "E0", "e+00", "e-1", "E2"]);
-    match random.below(4) {
-        0 => format!(".{zeros}{digit}"),
-        1 => format!(".{zeros}{digit}{zeros}"),
-        2 => format!(".0{zeros}{exponent}"),
-        _ => exponent.to_string(),
-    }
 }
 
 /// Adds an element that is wrong at every level of a boundary.
@@ -681,9 +641,7 @@ fn out_of_range(draft: &mut Draft, random: &mut Random) -> Option<()> {
     };
     let (value, _) = draft.pick(random, &wanted)?;
     let numeral = match value.role {
-        Role::Index(limit) | Role::Value(limit) => {
-            beyond_limit(limit, random) + &zero_fraction(40, random)
-        }
+        Role::Index(limit) | Role::Value(limit) => beyond_limit(limit, random),
         Role::Coordinate => {
             let wide = [
                 "2147483648",
@@ -691,7 +649,7 @@ fn out_of_range(draft: &mut Draft, random: &mut Random) -> Option<()> {
                 "4294967296",
                 "18446744073709551616",
             ];
-            random.pick(&wide).to_string() + &zero_fraction(40, random)
+            random.pick(&wide).to_string()
         }
         _ => no_pair(random),
     };

@@ -94,13 +94,11 @@ pub struct Draft {
     pub mark: Option<usize>,
 }
 
-/// `Raw` is spelled as it stands, `Text` as a string and `Integer` as an integer in any
-/// spelling.
+/// `Raw` is spelled as it stands, `Text` as a string in any spelling.
 #[derive(Clone, Debug)]
 pub enum Body {
     Raw(String),
     Text(String),
-    Integer(i64),
     Array(Vec<Draft>),
     Object(Vec<Entry>),
 }
@@ -126,10 +124,6 @@ impl Draft {
 
     pub fn text(role: Role, text: impl Into<String>) -> Draft {
         Draft::new(role, Body::Text(text.into()))
-    }
-
-    fn integer(role: Role, value: impl Into<i64>) -> Draft {
-        Draft::new(role, Body::Integer(value.into()))
     }
 
     fn array(role: Role, items: impl IntoIterator<Item = Draft>) -> Draft {
@@ -169,7 +163,7 @@ impl Draft {
             return Some(self.role);
         }
         match &self.body {
-            Body::Raw(_) | Body::Text(_) | Body::Integer(_) => None,
+            Body::Raw(_) | Body::Text(_) => None,
             Body::Array(items) => items.iter().find_map(Draft::marked),
             Body::Object(entries) => {
                 let mut entries = entries.iter();
@@ -181,7 +175,7 @@ impl Draft {
     /// The count of values for which `wanted` holds, this one and those within.
     fn count(&self, wanted: &dyn Fn(&Draft) -> bool) -> usize {
         let inner: usize = match &self.body {
-            Body::Raw(_) | Body::Text(_) | Body::Integer(_) => 0,
+            Body::Raw(_) | Body::Text(_) => 0,
             Body::Array(items) => items.iter().map(|item| item.count(wanted)).sum(),
             Body::Object(entries) => entries.iter().map(|entry| entry.value.count(wanted)).sum(),
         };
@@ -203,7 +197,7 @@ impl Draft {
             *left -= 1;
         }
         match &mut self.body {
-            Body::Raw(_) | Body::Text(_) | Body::Integer(_) => None,
+            Body::Raw(_) | Body::Text(_) => None,
             Body::Array(items) => items
                 .iter_mut()
                 .find_map(|item| item.nth(wanted, left, open + 1)),
@@ -241,7 +235,7 @@ impl Entry {
     }
 }
 
-/// Drafts a model. Member orders, transform numerals and the unexamined members are random;
+/// Drafts a model. Member orders, numerals and the unexamined members are random;
 /// `extras` is how likely, of a hundred, an unexamined member is added.
 pub fn draft(model: &Model, extras: usize, random: &mut Random) -> Draft {
     let mut root = vec![
@@ -249,7 +243,7 @@ pub fn draft(model: &Model, extras: usize, random: &mut Random) -> Draft {
         Entry::new("version", Draft::text(Role::Version, "2.0")),
         Entry::new("transform", transform(model, extras, random)),
         Entry::new("CityObjects", objects(model, extras, random)),
-        Entry::new("vertices", vertices(model)),
+        Entry::new("vertices", vertices(model, random)),
     ];
     let names = [
         "metadata",
@@ -339,9 +333,10 @@ fn transform(model: &Model, extras: usize, random: &mut Random) -> Draft {
     object(Role::Transform, entries, random)
 }
 
-fn vertices(model: &Model) -> Draft {
+fn vertices(model: &Model, random: &mut Random) -> Draft {
     let vertices = model.vertices.iter().map(|vertex| {
-        let drafts = vertex.map(|c| Draft::integer(Role::Coordinate, c));
+        let numerals = vertex.map(|c| spelling::integer(i64::from(c), random));
+        let drafts = numerals.map(|numeral| Draft::raw(Role::Coordinate, numeral));
         Draft::array(Role::Vertex, drafts)
     });
     Draft::array(Role::Vertices, vertices)
@@ -411,7 +406,10 @@ fn geometry(geometry: &Geometry, count: usize, extras: usize, random: &mut Rando
     let boundary = tree(
         &geometry.boundary,
         [Role::Boundary, Role::BoundaryPart],
-        &mut |index| Draft::integer(Role::Index(count), index),
+        &mut |index| {
+            let numeral = spelling::integer(i64::from(index), random);
+            Draft::raw(Role::Index(count), numeral)
+        },
     );
     let mut entries = vec![
         Entry::new(
@@ -444,7 +442,10 @@ fn semantics(semantics: &Semantics, extras: usize, random: &mut Random) -> Draft
         &semantics.values,
         [Role::Values, Role::ValuesPart],
         &mut |value| match value {
-            Some(value) => Draft::integer(Role::Value(count), value),
+            Some(value) => {
+                let numeral = spelling::integer(i64::from(value), random);
+                Draft::raw(Role::Value(count), numeral)
+            }
             None => Draft::raw(Role::Value(count), "null"),
         },
     );

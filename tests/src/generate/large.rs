@@ -99,43 +99,8 @@ fn texts() -> Vec<(u8, &'static str, Vec<u8>)> {
         ),
         (
             0,
-            "a coordinate with many zeros",
-            with_coordinate(&long_fraction("0")),
-        ),
-        (
-            0,
-            "an index with many zeros",
-            with_points(&list(&long_fraction("0"), 1)),
-        ),
-        (
-            0,
-            "a value with many zeros",
-            with_value(&long_fraction("0")),
-        ),
-        (
-            12,
-            "a coordinate with a late digit",
-            with_coordinate(&long_fraction("1")),
-        ),
-        (
-            12,
-            "an index with a late digit",
-            with_points(&list(&long_fraction("1"), 1)),
-        ),
-        (
-            12,
-            "a value with a late digit",
-            with_value(&long_fraction("1")),
-        ),
-        (
-            0,
             "vertices",
             document("", &repeated("[0,0,0]", 8_100)).into_bytes(),
-        ),
-        (
-            0,
-            "vertices with points",
-            document("", &repeated("[0.0,0.0,0.0]", 4_600)).into_bytes(),
         ),
         (13, "vertices out of range", out_of_range(8_000)),
         (0, "1,024 objects", objects(1_024)),
@@ -149,11 +114,6 @@ fn texts() -> Vec<(u8, &'static str, Vec<u8>)> {
             family("CityFurniture", false),
         ),
         (0, "a long boundary", with_points(&list("0", 32_500))),
-        (
-            0,
-            "a long boundary with points",
-            with_points(&list("0.0", 16_000)),
-        ),
         (
             0,
             "a boundary of empty arrays",
@@ -234,15 +194,6 @@ fn with_metadata(value: &str) -> Vec<u8> {
 
 fn with_scale(numeral: &str) -> Vec<u8> {
     MINIMAL.replacen("1.0", numeral, 1).into_bytes()
-}
-
-/// A numeral with 60,000 zeros after the point, and then a digit.
-fn long_fraction(last: &str) -> String {
-    format!("0.{}{last}", "0".repeat(60_000))
-}
-
-fn with_coordinate(numeral: &str) -> Vec<u8> {
-    document("", &format!("[0,0,{numeral}]")).into_bytes()
 }
 
 /// The n-th of 4,096 names that go to one chain of the library's: `Az` and `B?` have one number there.
@@ -340,14 +291,8 @@ fn many_geometries(count: usize) -> Vec<u8> {
 }
 
 fn many_values(count: usize) -> Vec<u8> {
-    with_semantics(&list("0", count), &list("0", count))
-}
-
-fn with_value(numeral: &str) -> Vec<u8> {
-    with_semantics("[0]", &list(numeral, 1))
-}
-
-fn with_semantics(boundary: &str, values: &str) -> Vec<u8> {
+    let boundary = list("0", count);
+    let values = list("0", count);
     let semantics = format!(r#"{{"surfaces":[{{"type":"Door"}}],"values":{values}}}"#);
     with_geometries(&format!(
         r#"{{"type":"MultiPoint","lod":"1","boundaries":{boundary},"semantics":{semantics}}}"#

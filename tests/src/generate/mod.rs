@@ -123,8 +123,7 @@ pub fn write(model: &Model, random: &mut Random) -> Vec<u8> {
     spelling::spell(&draft, Style::random(random), random).0
 }
 
-/// A text of the model with no white space, no extra members, no needless escapes and no
-/// points in integers.
+/// A text of the model with no white space, no extra members and no needless escapes.
 pub fn write_plain(model: &Model, random: &mut Random) -> Vec<u8> {
     let draft = draft::draft(model, 0, random);
     spelling::spell(&draft, Style::PLAIN, random).0

@@ -7,13 +7,12 @@ use super::draft::{Body, Draft};
 use super::random::Random;
 use crate::decimal::Pair;
 
-/// Nothing, or in `points` of a hundred cases a point and zeros only.
-pub fn zero_fraction(points: usize, random: &mut Random) -> String {
-    if !random.chance(points) {
-        return String::new();
+/// A numeral with no fraction and no exponent part.
+pub fn integer(value: i64, random: &mut Random) -> String {
+    if value == 0 && random.chance(20) {
+        return "-0".to_string();
     }
-    let zeros = *random.pick(&[1, 1, 1, 2, 3, 25]);
-    format!(".{}", "0".repeat(zeros))
+    value.to_string()
 }
 
 /// A numeral for a pair, with the point and the exponent anywhere.
@@ -63,26 +62,23 @@ fn exponent_part(exponent: i64, random: &mut Random) -> String {
     format!("{letter}{sign}{zeros}{}", exponent.unsigned_abs())
 }
 
-/// How likely, of a hundred, white space, escapes and points in integers are.
+/// How likely, of a hundred, white space and escapes are.
 #[derive(Clone, Copy, Debug)]
 pub struct Style {
     pub space: usize,
     pub escape: usize,
-    pub point: usize,
 }
 
 impl Style {
     pub const PLAIN: Style = Style {
         space: 0,
         escape: 0,
-        point: 0,
     };
 
     pub fn random(random: &mut Random) -> Style {
         Style {
             space: *random.pick(&[0, 0, 10, 40]),
             escape: *random.pick(&[0, 2, 10, 60]),
-            point: *random.pick(&[0, 5, 40, 100]),
         }
     }
 }
@@ -135,7 +131,6 @@ impl Writer<'_> {
         match body {
             Body::Raw(raw) => self.text += raw,
             Body::Text(text) => self.string(text),
-            Body::Integer(value) => self.integer(*value),
             Body::Array(items) => {
                 self.text.push('[');
                 self.space();
@@ -163,14 +158,6 @@ impl Writer<'_> {
                 self.text.push('}');
             }
         }
-    }
-
-    fn integer(&mut self, value: i64) {
-        if value == 0 && self.random.chance(20) {
-            self.text.push('-');
-        }
-        self.text += &value.to_string();
-        self.text += &zero_fraction(self.style.point, self.random);
     }
 
     fn string(&mut self, text: &str) {

@@ -1,13 +1,27 @@
 -- `numerals::is_integer` meets its contract.
-use Rattle.numerals.proofs.Integers.{integers}
+use Prim.Native.Nat.{◌-◌}
+use Rattle.numerals.proofs.Bytes.{bytes, Plain}
 use Rattle.numerals.proofs.is_integer.Statement.{statement}
 use Rattle.numerals.proofs.is_integer.Tie as tie
+
+abbrev invariant-loop : tie.invariant-loop
+invariant-loop text at end i₀ i = Plain text at end i
+
+abbrev decreases-loop : tie.decreases-loop
+decreases-loop text at end i₀ i = end - i
 
 pub is-integer-spec : {M : Type 1} → statement M
 is-integer-spec =
     tie.close
     (tie.spec
-    (λ c κs. search integers)
-    (λ c κs. search integers)
-    (λ c κs. search integers)
-    (λ c. search integers))
+    invariant-loop
+    decreases-loop
+    (λ c. search bytes)
+    (λ c. search bytes)
+    (λ c. search bytes)
+    (λ c κs. search bytes)
+    (λ c. search bytes)
+    (λ c. search bytes)
+    (λ c. search bytes)
+    (λ c. search bytes)
+    (λ c. search bytes))

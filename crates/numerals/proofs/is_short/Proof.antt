@@ -7,9 +7,12 @@ pub is-short-spec : {M : Type 1} → statement M
 is-short-spec =
     tie.close
     (tie.spec
-    (λ c κs. search short)
-    (λ c κs. search short)
     (λ c. search short)
+    (λ c. search short)
+    (λ c. search short)
+    (λ c. search short)
+    (λ c. search short)
+    (λ c κs. search short)
     (λ c. search short)
     (λ c κs. search short)
     (λ c. search short))

@@ -19,7 +19,6 @@ magnitude-spec =
     (λ c. search bytes)
     (λ c. search bytes)
     (λ c. search bytes)
-    (λ c. search bytes)
     (λ c κs. search bytes)
     (λ c. search bytes)
     (λ c. search bytes)
