@@ -6,9 +6,9 @@ use mathlib.Core.List.{List}
 use lib.ListN.{length, get_or}
 use mir.Syntax.{w64}
 use mir.Val.{Fits}
-use Rattle.json.specs.Tree.{Json}
-use Rattle.json.specs.Table.{Sub}
-use Rattle.json.specs.Laws.{Left, past, over, ended}
+use Rattle.json_text.specs.Tree.{Json}
+use Rattle.json_text.specs.Table.{Sub}
+use Rattle.json_text.specs.Laws.{Left, past, over, ended}
 use Rattle.nodes.specs.Access.{listed, elements}
 use Rattle.nodes.specs.Says.{Node, Gives}
 use Rattle.arrays.specs.Says.{Ends}

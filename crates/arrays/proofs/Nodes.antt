@@ -16,8 +16,8 @@ use Rattle.utf8.specs.Laws.{clash}
 use Rattle.numerals.specs.Numerals.{integer, fits32}
 use Rattle.numerals.specs.Reading.{IsWhole, Quick}
 use Rattle.numerals.specs.declared.Whole.{Whole}
-use Rattle.json.specs.Tree.{Json}
-use Rattle.json.specs.Table.{Sub}
+use Rattle.json_text.specs.Tree.{Json}
+use Rattle.json_text.specs.Table.{Sub}
 use Rattle.nodes.specs.Access.{is_null_value, is_number_value, elements, numeral_of}
 use Rattle.nodes.specs.Says.{Gives}
 use Rattle.nodes.specs.Laws.{NumeralAt, numeral-at}

@@ -1,7 +1,7 @@
 -- What the writers ask of the numbers of a text; those of an accepted text are so (rules 12 and 13).
 use Rattle.std.specs.Prelude.{◌≡◌, true, false, ℕ, zero, suc, ◌^◌, length}
 use Rattle.numerals.specs.Numerals.{pair_of, integer, fits32, is_below}
-use Rattle.json.specs.Tree.{Json}
+use Rattle.json_text.specs.Tree.{Json}
 use Rattle.nodes.specs.Access.{is_null_value, is_number_value, elements, numeral_of}
 use Rattle.shapes.specs.Checks.{is_some}
 use Rattle.shapes.specs.Shapes.{is_integer_value}

@@ -6,9 +6,9 @@ use mathlib.Core.List.{List, [], ◌++◌, append_assoc, append-nil}
 use Rattle.std.proofs.Math.Option.{Option, some}
 use Rattle.std.proofs.Math.Option as option
 use Rattle.std.proofs.lemmas.Bool.{not-true, not-false}
-use Rattle.json.specs.Tree.{Json, no_items}
-use Rattle.json.specs.Table.{sizes, Sub, nil}
-use Rattle.json.specs.Laws.{Left, Past, past, over, ended}
+use Rattle.json_text.specs.Tree.{Json, no_items}
+use Rattle.json_text.specs.Table.{sizes, Sub, nil}
+use Rattle.json_text.specs.Laws.{Left, Past, past, over, ended}
 use Rattle.nodes.specs.Access.{is_array_value, listed, elements}
 use Rattle.nodes.specs.Says.{Node, Finds, Gives}
 use Rattle.nodes.specs.Laws.{elements-begin, no-elements}

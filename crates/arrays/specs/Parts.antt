@@ -9,7 +9,7 @@ use Rattle.utf8.specs.Laws.{never}
 use Rattle.numerals.specs.Numerals.{decimal, in_range, pair_of, integer, fits32, is_below, digits, natural, negative}
 use Rattle.numerals.specs.Numerals as numerals
 use Rattle.numerals.specs.Reading.{saturated}
-use Rattle.json.specs.Tree.{Json, null, bool, num, str, arr, obj}
+use Rattle.json_text.specs.Tree.{Json, null, bool, num, str, arr, obj}
 use Rattle.nodes.specs.Access.{is_null_value, is_number_value, elements, numeral_of}
 use Rattle.utf8.specs.Bytes.{le}
 use Rattle.model.specs.Code.{signed, concat_map, Holds}

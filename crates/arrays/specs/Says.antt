@@ -1,9 +1,9 @@
 -- What the writers ask and tell of a node.
 use Rattle.std.specs.Prelude.{List, ◌≡◌, ℕ, ◌+◌}
 use Rattle.std.proofs.Math.Option.{Option}
-use Rattle.json.specs.Tree.{Json}
-use Rattle.json.specs.Table.{Sub}
-use Rattle.json.specs.Laws.{Left}
+use Rattle.json_text.specs.Tree.{Json}
+use Rattle.json_text.specs.Table.{Sub}
+use Rattle.json_text.specs.Laws.{Left}
 use Rattle.nodes.specs.Access.{listed, elements}
 use Rattle.nodes.specs.Says.{Node, Finds}
 use Rattle.nodes.specs.declared.Found.{Found}

@@ -1,6 +1,8 @@
 // Writes the numbers and the nested arrays of an accepted text to a lent sheet.
 // If they do not fit, a part of them may be written, and the cursor is then past the sheet.
 // Each function takes the cursor at which it is to write and gives the one after.
+#![tactic(auto)]
+
 ghost use Rattle.utf8.specs.Bytes.{le};
 ghost use Rattle.model.specs.Code.{signed, concat_map};
 ghost use Rattle.model.specs.Model.{lay_three, lay_decimal, lay_nest, lay_value, lay_values};

@@ -4,7 +4,7 @@ use Prim.Native.String.{String}
 use Rattle.std.proofs.Common.{arith}
 use Rattle.std.proofs.Math.Option.{Option}
 use Rattle.words.specs.Words.{code_of, object_words, geometry_words}
-use Rattle.json.specs.Tree.{Json, null}
+use Rattle.json_text.specs.Tree.{Json, null}
 use Rattle.nodes.specs.Access.{Member, elements, members, find}
 use Rattle.nodes.specs.Faults.{fault}
 use Rattle.everywhere.specs.Everywhere.{rule5, rule6}

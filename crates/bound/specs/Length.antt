@@ -11,7 +11,7 @@ use Rattle.utf8.specs.Bytes.{le}
 use Rattle.utf8.specs.Utf8.{same}
 use Rattle.utf8.specs.Laws.{both_left, both_right, same-equal}
 use Rattle.words.specs.Words.{depth, values_depth}
-use Rattle.json.specs.Tree.{Json, null}
+use Rattle.json_text.specs.Tree.{Json, null}
 use Rattle.nodes.specs.Access.{Member, elements, members, name_of, text_of, first_named, find}
 use Rattle.model.specs.Code.{All, concat_map}
 use Rattle.model.specs.Lists.{all_map}

@@ -8,10 +8,10 @@ use lib.ListN.{length, get_or}
 use lib.Dec.{eqb}
 use borrow.Author.Tests.{not-true, not-false, eqb-true}
 use Rattle.utf8.specs.Laws.{never}
-use Rattle.json.specs.Tree.{Json, Items, ◌▸◌}
-use Rattle.json.specs.Tree as tree
-use Rattle.json.specs.Table.{Sub, null, bool, num, str, arr, obj, Subs, nil, cons}
-use Rattle.json.specs.Laws.{words, Left, Past, past, over, ended}
+use Rattle.json_text.specs.Tree.{Json, Items, ◌▸◌}
+use Rattle.json_text.specs.Tree as tree
+use Rattle.json_text.specs.Table.{Sub, null, bool, num, str, arr, obj, Subs, nil, cons}
+use Rattle.json_text.specs.Laws.{words, Left, Past, past, over, ended}
 use Rattle.nodes.specs.Access.{is_null_value, is_array_value, listed, elements}
 use Rattle.nodes.specs.Faults.{least}
 use Rattle.nodes.specs.Says.{Gives}

@@ -8,7 +8,7 @@ use lib.ListN.{get_or}
 use lib.Seq.{slice}
 use borrow.Author.Tests.{not-true}
 use Rattle.numerals.specs.Numerals.{integer, is_below}
-use Rattle.json.specs.Tree.{Json}
+use Rattle.json_text.specs.Tree.{Json}
 use Rattle.nodes.specs.Access.{is_null_value, is_number_value, is_array_value}
 use Rattle.nodes.specs.Faults.{least}
 use Rattle.nodes.specs.Says.{Gives}

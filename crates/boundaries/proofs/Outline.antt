@@ -13,8 +13,8 @@ use mir.Val.{Fits}
 use borrow.Author.Tests.{not-true, not-false, ltb-true}
 use Rattle.numerals.specs.Numerals.{is_integer, integer, is_below}
 use Rattle.numerals.specs.Reading.{Quick}
-use Rattle.json.specs.Tree.{Json}
-use Rattle.json.specs.Table.{Sub}
+use Rattle.json_text.specs.Tree.{Json}
+use Rattle.json_text.specs.Table.{Sub}
 use Rattle.nodes.specs.Access.{is_number_value, is_array_value, numeral_of}
 use Rattle.nodes.specs.Faults.{fault, least}
 use Rattle.nodes.specs.Says.{Gives}

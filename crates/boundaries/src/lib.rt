@@ -1,5 +1,7 @@
 // Checks of a boundary and of the values over it: the shape of nested arrays (rule 12) and the range of their integers (rule 13).
 // Each takes the least fault so far and gives the least.
+#![tactic(auto)]
+
 ghost use Rattle.std.specs.Prelude.{◌||◌, ◌++◌};
 ghost use Rattle.nodes.specs.Access.{is_null_value};
 ghost use Rattle.nodes.specs.Faults.{least};

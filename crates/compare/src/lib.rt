@@ -1,5 +1,7 @@
 // Strings of JSON texts compared, with a word and with each other. A string is given by the text and two offsets: `at`, just after its opening quote,
 // and `end`, its closing quote.
+#![tactic(auto)]
+
 ghost use Rattle.std.specs.Prelude.{◌+◌, ◌-◌, ◌≤◌, ◌≡◌, length, drop};
 ghost use Rattle.utf8.specs.Utf8.{same};
 ghost use Rattle.strings.specs.Spans.{Span, decode_at, ahead, begin_apart};

@@ -6,7 +6,7 @@ use native.Mathlib.Omega.{arith}
 use lib.ListN.{length, get_or}
 use mir.Syntax.{w64}
 use mir.Val.{Fits}
-use Rattle.json.specs.Laws.{words}
+use Rattle.json_text.specs.Laws.{words}
 use Rattle.everywhere.specs.Parts.{Part, part_place, part_end}
 use Rattle.everywhere.specs.Says.{Stands, of-value, of-name, AnyPart}
 

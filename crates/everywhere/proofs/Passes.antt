@@ -9,10 +9,10 @@ use borrow.Author.Tests.{not-true}
 use Rattle.strings.specs.Strings.{unpaired_from}
 use Rattle.strings.specs.Spans.{has_byte}
 use Rattle.strings.specs.Laws.{none-slice, unpaired-plain}
-use Rattle.json.specs.Tree.{Json, Items, ◌▸◌, Members, member, Name}
-use Rattle.json.specs.Tree as tree
-use Rattle.json.specs.Table.{size, sizes, widths, Sub, null, bool, num, str, arr, obj, Subs, nil, cons, Fields, last, field}
-use Rattle.json.specs.Laws.{words}
+use Rattle.json_text.specs.Tree.{Json, Items, ◌▸◌, Members, member, Name}
+use Rattle.json_text.specs.Tree as tree
+use Rattle.json_text.specs.Table.{size, sizes, widths, Sub, null, bool, num, str, arr, obj, Subs, nil, cons, Fields, last, field}
+use Rattle.json_text.specs.Laws.{words}
 use Rattle.nodes.specs.Faults.{fault, least}
 use Rattle.everywhere.specs.Everywhere.{strings, unpaired_in, rule5, strings_in, strings_of}
 use Rattle.nodes.specs.Says.{Root, Gives}

@@ -16,9 +16,9 @@ use Rattle.strings.specs.Spans.{Span, unpaired_at, first_of}
 use Rattle.strings.specs.Laws.{Rising, unpaired-rising, found_within}
 use Rattle.strings.specs.declared.Found.{Found}
 use Rattle.strings.specs.declared.Found.TheVariants.{At, Nothing}
-use Rattle.json.specs.Tree.{Json}
-use Rattle.json.specs.Tree as tree
-use Rattle.json.specs.Table.{null, bool, num, str, arr, obj}
+use Rattle.json_text.specs.Tree.{Json}
+use Rattle.json_text.specs.Tree as tree
+use Rattle.json_text.specs.Table.{null, bool, num, str, arr, obj}
 use Rattle.nodes.specs.Access.{is_string_value}
 use Rattle.nodes.specs.Faults.{fault, least}
 use Rattle.nodes.specs.Laws.{StringAt, quoted-at, string-at, raw_of, kinds, place_at}

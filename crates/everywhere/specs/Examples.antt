@@ -2,8 +2,8 @@
 -- Then the parts of a tree.
 use Rattle.std.specs.Prelude.{ℕ, ◌≡◌, refl, List, [], ◌∷◌, map}
 use Rattle.utf8.specs.Ascii.{ascii, is_digit}
-use Rattle.json.specs.Tree.{Json, ◌◂◌, with}
-use Rattle.json.specs.Machine.{Outcome, reads, bad, too_deep, read, step, want_step, got_step, next_step, name_step, mant_step, nought_step, is_blank, is_hex, is_escape}
+use Rattle.json_text.specs.Tree.{Json, ◌◂◌, with}
+use Rattle.json_text.specs.Machine.{Outcome, reads, bad, too_deep, read, step, want_step, got_step, next_step, name_step, mant_step, nought_step, is_blank, is_hex, is_escape}
 use Rattle.everywhere.specs.Everywhere.{rule5, rule6}
 use Rattle.everywhere.specs.Parts.{part_place, part_end, parts}
 

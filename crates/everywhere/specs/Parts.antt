@@ -1,7 +1,7 @@
 -- The parts of a tree: every value and every name, with its place and its end.
 use Rattle.std.specs.Prelude.{ℕ, List, [], ◌∷◌, ◌++◌}
-use Rattle.json.specs.Tree.{Json, Items, ◌▸◌, Members, member, Name, place_of, end_of}
-use Rattle.json.specs.Tree as tree
+use Rattle.json_text.specs.Tree.{Json, Items, ◌▸◌, Members, member, Name, place_of, end_of}
+use Rattle.json_text.specs.Tree as tree
 
 -- a value or a name
 pub data Part : Type 0 where

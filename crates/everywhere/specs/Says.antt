@@ -2,9 +2,9 @@
 use Rattle.std.specs.Prelude.{◌≡◌, List, [], map, ℕ, ◌+◌, ◌-◌, ◌≤◌, length, get_or}
 use Rattle.strings.specs.Strings.{unpaired_from}
 use Rattle.strings.specs.Spans.{decode_at}
-use Rattle.json.specs.Tree.{Json, Name}
-use Rattle.json.specs.Tree as tree
-use Rattle.json.specs.Table.{Quoted, Sub}
+use Rattle.json_text.specs.Tree.{Json, Name}
+use Rattle.json_text.specs.Tree as tree
+use Rattle.json_text.specs.Table.{Quoted, Sub}
 use Rattle.nodes.specs.Faults.{fault, least}
 use Rattle.everywhere.specs.Parts.{Part, value, name}
 

@@ -1,5 +1,7 @@
 // Rule 5, which holds in every part of a text, over the nodes of its table, and the chain of a text.
 // Each function that looks for faults takes the least so far and gives the least.
+#![tactic(auto)]
+
 ghost use Rattle.std.specs.Prelude.{◌+◌, ◌*◌, ◌%◌, ◌<◌, map, ◌≡◌};
 ghost use Rattle.nodes.specs.Faults.{fault, least};
 ghost use Rattle.nodes.specs.Says.{Root, Gives};

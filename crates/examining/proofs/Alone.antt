@@ -11,7 +11,7 @@ use Rattle.utf8.specs.Ascii.{ascii}
 use Rattle.utf8.specs.Utf8.{same}
 use Rattle.utf8.specs.Laws.{same_refl, neither}
 use Rattle.strings.specs.Strings.{decode}
-use Rattle.json.specs.Tree.{Json, null, bool, num, str, arr, obj, Members, empty, member, Name}
+use Rattle.json_text.specs.Tree.{Json, null, bool, num, str, arr, obj, Members, empty, member, Name}
 use Rattle.nodes.specs.Access.{name_of, pairs, members, first_named, find}
 use Rattle.everywhere.specs.Everywhere.{among, repeated, rule6, rule6_of}
 use Rattle.fields.specs.Fields.{members_in, objects_of}

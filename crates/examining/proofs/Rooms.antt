@@ -9,9 +9,9 @@ use mathlib.Core.Option.{Option, none, some}
 use lib.ListN.{length, get_or}
 use Rattle.utf8.specs.Ascii.{ascii}
 use Rattle.utf8.specs.Utf8.{same}
-use Rattle.json.specs.Tree.{Json, null, bool, num, str, arr, obj, Items, no_items, ◌▸◌, Members, empty, member}
-use Rattle.json.specs.Table.{size, sizes, widths}
-use Rattle.json.specs.Laws.{size-pos}
+use Rattle.json_text.specs.Tree.{Json, null, bool, num, str, arr, obj, Items, no_items, ◌▸◌, Members, empty, member}
+use Rattle.json_text.specs.Table.{size, sizes, widths}
+use Rattle.json_text.specs.Laws.{size-pos}
 use Rattle.nodes.specs.Access.{elements, listed, members, pairs, Member, name_of, first_named, find}
 use Rattle.nodes.specs.Unique.{unique}
 use Rattle.fields.specs.Fields.{elements_in, listed_in, members_in, objects_of}

@@ -8,12 +8,12 @@ use borrow.Author.Rules.{rules}
 use borrow.Author.Tests.{lt-ltb, le-ltb}
 use Rattle.utf8.specs.Utf8.{whole_length}
 use Rattle.utf8.specs.Laws.{clash}
-use Rattle.json.specs.Machine.{reads}
-use Rattle.json.specs.Tree.{Json}
-use Rattle.json.specs.Table.{Sub}
-use Rattle.json.specs.Parse.{Tells}
-use Rattle.json.specs.declared.Parsed.{Parsed}
-use Rattle.json.specs.declared.Parsed.TheVariants as parse
+use Rattle.json_text.specs.Machine.{reads}
+use Rattle.json_text.specs.Tree.{Json}
+use Rattle.json_text.specs.Table.{Sub}
+use Rattle.json_text.specs.Parse.{Tells}
+use Rattle.json_text.specs.declared.Parsed.{Parsed}
+use Rattle.json_text.specs.declared.Parsed.TheVariants as parse
 use Rattle.everywhere.specs.Everywhere.{rule5, rule6}
 use Rattle.nodes.specs.Faults.{fault, least, no_fault}
 use Rattle.nodes.specs.Says.{Gives}

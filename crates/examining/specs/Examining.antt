@@ -2,9 +2,9 @@
 use Rattle.std.specs.Prelude.{◌≡◌, List, [], ◌⊎◌, ℕ, ◌+◌, ◌*◌, ◌<◌, ◌≤◌, length, get_or, take}
 use Rattle.std.proofs.Common.{inl, inr}
 use Rattle.std.proofs.Math.Option.{Option, none, some}
-use Rattle.json.specs.Tree.{Json}
-use Rattle.json.specs.Machine.{Outcome, read, reads, bad, too_deep}
-use Rattle.json.specs.Table.{Sub, size}
+use Rattle.json_text.specs.Tree.{Json}
+use Rattle.json_text.specs.Machine.{Outcome, read, reads, bad, too_deep}
+use Rattle.json_text.specs.Table.{Sub, size}
 use Rattle.nodes.specs.Faults as faults
 use Rattle.fields.specs.Fields.{objects_of}
 use Rattle.fields.specs.Says.{Indexed}

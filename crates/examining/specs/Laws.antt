@@ -7,14 +7,14 @@ use Rattle.std.proofs.Math.Option.{Option, some}
 use Rattle.std.proofs.Math.Option as option
 use Rattle.utf8.specs.Utf8.{whole_length}
 use Rattle.utf8.specs.Laws.{clash}
-use Rattle.json.specs.Machine.{Outcome, read, reads, bad, too_deep}
+use Rattle.json_text.specs.Machine.{Outcome, read, reads, bad, too_deep}
 use Rattle.nodes.specs.Access.{Member}
 use Rattle.fields.specs.Says.{Indexed}
 use Rattle.fields.specs.declared.Index.{Index}
 use Rattle.ids.specs.Says.{Offsets}
 use Rattle.nodes.specs.Faults.{no_fault}
-use Rattle.json.specs.Table.{size}
-use Rattle.json.specs.Laws.{sub_within}
+use Rattle.json_text.specs.Table.{size}
+use Rattle.json_text.specs.Laws.{sub_within}
 use Rattle.nodes.specs.Laws.{fresh-length}
 use Rattle.nodes.specs.Unique.{unique}
 use Rattle.schema.specs.declared.Walked.{Walked}

@@ -1,11 +1,13 @@
 // Examines a CityJSON text by the rules of docs/RULES.md: what judge and lay have in common.
+#![tactic(auto)]
+
 ghost use Rattle.std.specs.Prelude.{◌≡◌};
 ghost use Rattle.verdict.specs.Verdict.{screening};
 ghost use Rattle.links.specs.Says.{LinksGive};
 ghost use Rattle.examining.specs.Examining.{screened_as, Room, Stands, Opens, RowRoom, Linked, Rows, LinkedBy, offsets_of, TreeExamined, Examined, RowsOf};
 
 use fields::Index;
-use json::Parsed;
+use json_text::Parsed;
 use nodes::NO_FAULT;
 use refusals::{Broken, Refusal};
 use schema::Walked;

@@ -2,8 +2,8 @@
 use Rattle.std.specs.Prelude.{ℕ, zero, suc, ◌+◌, ◌*◌, ◌/◌, ◌%◌, ◌≡◌, refl, List, [], ◌∷◌, ◌++◌, map}
 use Prim.Native.String.{String}
 use Rattle.utf8.specs.Ascii.{ascii}
-use Rattle.json.specs.Tree.{Json, num, str, arr, obj, no_items, ◌▸◌, Members, empty, member}
-use Rattle.json.specs.Machine.{reads, read}
+use Rattle.json_text.specs.Tree.{Json, num, str, arr, obj, no_items, ◌▸◌, Members, empty, member}
+use Rattle.json_text.specs.Machine.{reads, read}
 use Rattle.everywhere.specs.Everywhere.{rule5}
 use Rattle.nodes.specs.Faults.{fault, least, no_fault}
 use Rattle.rules.specs.Schema.{city_json}

@@ -7,7 +7,7 @@ use Rattle.std.specs.Int.{w64}
 use Rattle.std.proofs.lemmas.Bool.{not-true, not-false}
 use Rattle.utf8.specs.Laws.{clash}
 use Rattle.strings.specs.Spans.{Span, decode_at}
-use Rattle.json.specs.Tree.{Json}
+use Rattle.json_text.specs.Tree.{Json}
 use Rattle.nodes.specs.Access.{is_string_value, text_of}
 use Rattle.nodes.specs.Says.{Node, Sought, Seeks, Finds, Gives, GivesFound}
 use Rattle.nodes.specs.Reads.{node-room, node-onward}
@@ -73,12 +73,12 @@ module _ {x t : List ℕ} {i : ℕ} (d : StringNode x t i) where
 -- a value that is no string has no text
 no_text : (v : Json) → is_string_value v ≡ false → text_of v ≡ []
 unfolding is_string_value text_of
-no_text (Rattle.json.specs.Tree.null p e) h = refl
-no_text (Rattle.json.specs.Tree.bool p e b) h = refl
-no_text (Rattle.json.specs.Tree.num p e raw) h = refl
-no_text (Rattle.json.specs.Tree.str p e raw) h = clash cc
-no_text (Rattle.json.specs.Tree.arr p e vs) h = refl
-no_text (Rattle.json.specs.Tree.obj p e ms) h = refl
+no_text (Rattle.json_text.specs.Tree.null p e) h = refl
+no_text (Rattle.json_text.specs.Tree.bool p e b) h = refl
+no_text (Rattle.json_text.specs.Tree.num p e raw) h = refl
+no_text (Rattle.json_text.specs.Tree.str p e raw) h = clash cc
+no_text (Rattle.json_text.specs.Tree.arr p e vs) h = refl
+no_text (Rattle.json_text.specs.Tree.obj p e ms) h = refl
 
 pub other_text : {A : Type 0} {x t : List ℕ} {i : ℕ} {b : Bool} {r : A} (f : List ℕ → A) → Gives is_string_value x t i b → not b ≡ true → r ≡ f []
     → Gives (λ v. f (text_of v)) x t i r

@@ -3,8 +3,8 @@ use Rattle.std.specs.Prelude.{◌≡◌, true, List, ℕ, ◌+◌, ◌<◌, ◌�
 use Rattle.std.proofs.Math.Option.{Option}
 use Prim.Native.String.{String}
 use Rattle.words.specs.Words.{code_of}
-use Rattle.json.specs.Tree.{Json}
-use Rattle.json.specs.Table.{Quoted, Sub}
+use Rattle.json_text.specs.Tree.{Json}
+use Rattle.json_text.specs.Table.{Quoted, Sub}
 use Rattle.nodes.specs.Access.{is_string_value, Member}
 use Rattle.nodes.specs.Says.{Node, Finds, Sought}
 use Rattle.nodes.specs.declared.Found.{Found}

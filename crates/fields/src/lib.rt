@@ -1,4 +1,6 @@
 // What the rules look up in objects, over what a search for a member found.
+#![tactic(auto)]
+
 ghost use Rattle.std.specs.Prelude.{◌+◌, ◌-◌, ◌<◌, ◌≡◌, length, get_or};
 ghost use Rattle.utf8.specs.Utf8.{same};
 ghost use Rattle.words.specs.Words.{object_words, geometry_words, code_of};

@@ -15,8 +15,8 @@ use Rattle.utf8.specs.Utf8.{same}
 use Rattle.utf8.specs.Laws.{same-equal}
 use Rattle.words.specs.Words.{code_of, is_one, is, is_added_name, geometry_words, surface_words, depth, values_depth, is_permitted}
 use Rattle.words.specs.Laws.{one-has-code}
-use Rattle.json.specs.Tree.{Json, Items}
-use Rattle.json.specs.Table.{Sub, null, bool, num, str, arr, obj, Subs, nil, cons}
+use Rattle.json_text.specs.Tree.{Json, Items}
+use Rattle.json_text.specs.Table.{Sub, null, bool, num, str, arr, obj, Subs, nil, cons}
 use Rattle.nodes.specs.Access.{is_string_value, is_array_value, text_of, listed, elements, find}
 use Rattle.nodes.specs.Faults.{fault, least, no_fault}
 use Rattle.nodes.specs.Says.{Node, Sought, Finds, Gives, GivesFound}

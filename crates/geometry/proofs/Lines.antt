@@ -7,7 +7,7 @@ use mathlib.Core.List.{List, [], ◌∷◌, ◌++◌, append_assoc}
 use mathlib.Core.Option.{Option}
 use mathlib.Core.Option as option
 use Rattle.utf8.specs.Ascii.{ascii}
-use Rattle.json.specs.Tree.{Json}
+use Rattle.json_text.specs.Tree.{Json}
 use Rattle.nodes.specs.Access.{is_object_value, members, first_named, find}
 use Rattle.nodes.specs.Faults.{least}
 use Rattle.nodes.specs.Laws.{least-++}

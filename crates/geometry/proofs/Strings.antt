@@ -8,8 +8,8 @@ use mathlib.Core.Option.{some}
 use borrow.Author.Tests.{not-false}
 use Rattle.utf8.specs.Ascii.{ascii}
 use Rattle.words.specs.Words.{code_of}
-use Rattle.json.specs.Tree.{Json}
-use Rattle.json.specs.Table.{Sub}
+use Rattle.json_text.specs.Tree.{Json}
+use Rattle.json_text.specs.Table.{Sub}
 use Rattle.nodes.specs.Access.{is_string_value, is_array_value, text_of, members, first_named, find}
 use Rattle.nodes.specs.Faults.{least}
 use Rattle.nodes.specs.Says.{Node, Seeks, Finds, Gives, GivesFound}

@@ -4,8 +4,8 @@ use Rattle.std.proofs.Math.Option.{Option}
 use Prim.Native.String.{String}
 use Rattle.utf8.specs.Ascii.{ascii}
 use Rattle.words.specs.Words.{code_of, depth}
-use Rattle.json.specs.Tree.{Json}
-use Rattle.json.specs.Table.{Sub}
+use Rattle.json_text.specs.Tree.{Json}
+use Rattle.json_text.specs.Table.{Sub}
 use Rattle.nodes.specs.Access.{is_object_value, text_of, members, first_named, find}
 use Rattle.nodes.specs.Faults.{least}
 use Rattle.nodes.specs.Says.{Node, Seeks, Finds, Sought, Gives, GivesFound}

@@ -9,8 +9,8 @@ use Rattle.utf8.specs.Ascii.{ascii}
 use Rattle.utf8.specs.Bytes.{le}
 use Rattle.utf8.specs.Laws.{clash}
 use Rattle.strings.specs.Spans.{decode_at}
-use Rattle.json.specs.Tree.{Json}
-use Rattle.json.specs.Table.{Sub}
+use Rattle.json_text.specs.Tree.{Json}
+use Rattle.json_text.specs.Table.{Sub}
 use Rattle.nodes.specs.Access.{members, first_named, find}
 use Rattle.nodes.specs.Says.{Finds, Seeks, Gives, GivesFound}
 use Rattle.nodes.specs.declared.Found.{Found}

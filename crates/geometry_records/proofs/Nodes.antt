@@ -2,7 +2,7 @@
 use Prim.Native.Nat.{ℕ, ◌≤◌, ◌<◌}
 use mathlib.Core.Path.{◌≡◌, refl}
 use mathlib.Core.List.{List, [], ◌∷◌}
-use Rattle.json.specs.Tree.{Json}
+use Rattle.json_text.specs.Tree.{Json}
 use Rattle.nodes.specs.Access.{elements}
 use Rattle.nodes.specs.Says.{Node}
 use Rattle.nodes.specs.declared.Found.{Found}

@@ -3,7 +3,7 @@ use Prim.Native.Nat.{ℕ, ◌-◌}
 use mathlib.Core.Path.{◌≡◌, refl, sym, ap, ◌∙◌}
 use mathlib.Core.List.{List, append-nil}
 use Rattle.utf8.specs.Bytes.{le}
-use Rattle.json.specs.Tree.{Json}
+use Rattle.json_text.specs.Tree.{Json}
 use Rattle.nodes.specs.Says.{Gives}
 use Rattle.fields.specs.Fields.{type_text}
 use Rattle.model.specs.Code.{concat_map}

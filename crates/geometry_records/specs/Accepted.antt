@@ -10,7 +10,7 @@ use Rattle.std.proofs.lemmas.List.{length-map}
 use Rattle.std.proofs.lemmas.Bool.{not-true}
 use Rattle.numerals.specs.Numerals.{integer, is_below}
 use Rattle.words.specs.Words.{geometry_words, code_of, is, is_lod, depth, values_depth, is_permitted}
-use Rattle.json.specs.Tree.{Json}
+use Rattle.json_text.specs.Tree.{Json}
 use Rattle.nodes.specs.Access.{is_null_value, is_array_value, elements, numeral_of, find}
 use Rattle.shapes.specs.Checks.{Check, unless, all, on, at, for_each, each_element, object_kind, string_kind, array_kind, is_some, needs, text}
 use Rattle.shapes.specs.Shapes.{is_integer_value, shaped, ranged, for_both, matches}

@@ -1,7 +1,7 @@
 -- The bytes of the records of a geometry, and of its parts.
 use Rattle.std.specs.Prelude.{List, [], ◌++◌, ℕ}
 use Rattle.std.proofs.Math.Option.{Option, none, some}
-use Rattle.json.specs.Tree.{Json}
+use Rattle.json_text.specs.Tree.{Json}
 use Rattle.nodes.specs.Access.{elements, find}
 use Rattle.fields.specs.Fields.{text_in}
 use Rattle.words.specs.Words.{depth, values_depth}

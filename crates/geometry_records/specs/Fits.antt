@@ -2,7 +2,7 @@
 use Rattle.std.specs.Prelude.{◌≡◌, true, ℕ}
 use Rattle.std.proofs.Math.Option.{some}
 use Prim.Native.String.{String}
-use Rattle.json.specs.Tree.{Json}
+use Rattle.json_text.specs.Tree.{Json}
 use Rattle.nodes.specs.Access.{find}
 use Rattle.words.specs.Words.{geometry_words, code_of, is_lod, depth, values_depth}
 use Rattle.fields.specs.Fields.{text_in, type_text}

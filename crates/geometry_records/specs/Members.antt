@@ -3,8 +3,8 @@ use Rattle.std.specs.Prelude.{◌≡◌, true, List, ◌++◌, ℕ}
 use Rattle.std.proofs.Math.Option.{some}
 use Rattle.utf8.specs.Bytes.{le}
 use Rattle.strings.specs.Spans.{Span, decode_at}
-use Rattle.json.specs.Tree.{Json}
-use Rattle.json.specs.Table.{Sub}
+use Rattle.json_text.specs.Tree.{Json}
+use Rattle.json_text.specs.Table.{Sub}
 use Rattle.nodes.specs.Access.{elements, members, first_named, find}
 use Rattle.words.specs.Words.{is_lod, depth, values_depth}
 use Rattle.fields.specs.Fields.{text_in}

@@ -2,7 +2,7 @@
 use Rattle.std.specs.Prelude.{◌≡◌, List, ℕ}
 use Rattle.std.proofs.Math.Option.{Option}
 use Rattle.strings.specs.Spans.{Span, decode_at}
-use Rattle.json.specs.Tree.{Json}
+use Rattle.json_text.specs.Tree.{Json}
 use Rattle.nodes.specs.Says.{Finds}
 use Rattle.nodes.specs.declared.Found.{Found}
 use Rattle.fields.specs.Fields.{text_in}

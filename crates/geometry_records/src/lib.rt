@@ -1,6 +1,8 @@
 // Writes the records of the geometries of an accepted text from its node table: kinds 6, 7 and 8.
 // If they do not fit, a part of them may be written, and the cursor is then past the sheet.
 // Each function takes the cursor at which it is to write and gives the one after.
+#![tactic(auto)]
+
 ghost use Rattle.std.specs.Prelude.{◌-◌, ◌≤◌, true, ◌≡◌};
 ghost use Rattle.strings.specs.Spans.{Span, decode_at};
 ghost use Rattle.nodes.specs.Says.{Node, Sought, Gives};

@@ -9,10 +9,10 @@ use Rattle.std.proofs.Math.ListN.{length, length-drop}
 use Rattle.std.proofs.lemmas.Bool.{eqb-false}
 use Rattle.utf8.specs.Ascii.{is_digit}
 use Rattle.utf8.specs.Laws.{clash}
-use Rattle.json.specs.Tree.{Json, Members, Name}
-use Rattle.json.specs.Grammar.{At}
-use Rattle.json.specs.Machine.{Frame, Mode, Step, go, dead, deep, reads, bad, too_deep, step, run, ending, finish, got_step, is_blank}
-use Rattle.json.specs.Machine.Mode.{want, first, name0, name1, colon, got, int, frac, exps}
+use Rattle.json_text.specs.Tree.{Json, Members, Name}
+use Rattle.json_text.specs.Grammar.{At}
+use Rattle.json_text.specs.Machine.{Frame, Mode, Step, go, dead, deep, reads, bad, too_deep, step, run, ending, finish, got_step, is_blank}
+use Rattle.json_text.specs.Machine.Mode.{want, first, name0, name1, colon, got, int, frac, exps}
 
 -- in the mode m with the containers ks open at n, the machine reads the text x to its end, as the tree t
 pub data Acc (most : ℕ) (x : List ℕ) (t : Json) : Mode → List Frame → ℕ → Type 0 where

@@ -6,10 +6,10 @@ use mathlib.Core.List.{List, [], ◌∷◌}
 use Rattle.std.proofs.Math.Seq.{slice}
 use Rattle.std.proofs.Math.Dec.{eqb}
 use Rattle.utf8.specs.Ascii.{ascii, is_digit}
-use Rattle.json.specs.Tree.{Json, num, no_items}
-use Rattle.json.specs.Machine.{Frame, array, object, Role, value, Mode, Step, go, dead, deep, step, want_step, got_step, next_step, name_step, mant_step, nought_step, is_blank, is_hex, is_escape, closed, hexed, opened}
-use Rattle.json.specs.Machine.Role.{name}
-use Rattle.json.specs.Machine.Mode.{want, first, name0, name1, colon, got, chars, esc, hex, neg, nought, int, dot, frac, mant, exp, sign, exps, lit}
+use Rattle.json_text.specs.Tree.{Json, num, no_items}
+use Rattle.json_text.specs.Machine.{Frame, array, object, Role, value, Mode, Step, go, dead, deep, step, want_step, got_step, next_step, name_step, mant_step, nought_step, is_blank, is_hex, is_escape, closed, hexed, opened}
+use Rattle.json_text.specs.Machine.Role.{name}
+use Rattle.json_text.specs.Machine.Mode.{want, first, name0, name1, colon, got, chars, esc, hex, neg, nought, int, dot, frac, mant, exp, sign, exps, lit}
 use Rattle.grammar.specs.Endings.{Spelt}
 
 -- what a byte does with at most l levels and with at most l'

@@ -6,15 +6,15 @@ use Rattle.std.proofs.Math.Option.{Option, some}
 use Rattle.std.proofs.Math.Option as option
 use Rattle.utf8.specs.Ascii.{ascii, is_digit}
 use Rattle.utf8.specs.Laws.{clash}
-use Rattle.json.specs.Tree.{Json, Items, ◌◂◌, Members}
-use Rattle.json.specs.Tree as tree
-use Rattle.json.specs.Machine.{Frame, array, object, Role, value, Mode, go, dead, reads, bad, step, ending, is_blank, closed, numeral, literal}
-use Rattle.json.specs.Machine.Role.{name}
-use Rattle.json.specs.Machine.Mode.{want, first, name0, name1, got, chars, neg, nought, int, frac, mant, exp, exps, lit}
-use Rattle.json.specs.Grammar.{At, Text, name_at}
-use Rattle.json.specs.Grammar as g
-use Rattle.json.specs.Laws.{over-blank, over-digit}
-use Rattle.json.specs.Steps as st
+use Rattle.json_text.specs.Tree.{Json, Items, ◌◂◌, Members}
+use Rattle.json_text.specs.Tree as tree
+use Rattle.json_text.specs.Machine.{Frame, array, object, Role, value, Mode, go, dead, reads, bad, step, ending, is_blank, closed, numeral, literal}
+use Rattle.json_text.specs.Machine.Role.{name}
+use Rattle.json_text.specs.Machine.Mode.{want, first, name0, name1, got, chars, neg, nought, int, frac, mant, exp, exps, lit}
+use Rattle.json_text.specs.Grammar.{At, Text, name_at}
+use Rattle.json_text.specs.Grammar as g
+use Rattle.json_text.specs.Laws.{over-blank, over-digit}
+use Rattle.json_text.specs.Steps as st
 use Rattle.grammar.specs.Induction.{Below, by-levels}
 use Rattle.grammar.specs.Joins.{◌⊕◌, items-none, ◌⊞◌, members-empty}
 use Rattle.grammar.specs.Accepts.{Acc, done, pass, Blanks, b-want, b-first, b-name0, b-name1, b-colon, b-got, Digital, d-int, d-frac, d-exps, blank-stays, digit-stays, which, is?}

@@ -6,11 +6,11 @@ use Rattle.std.proofs.Math.Path.{refl}
 use Rattle.std.proofs.Math.Option.{Option}
 use mathlib.Core.List.{List, [], ◌∷◌, ◌++◌}
 use Rattle.utf8.specs.Ascii.{is_digit}
-use Rattle.json.specs.Tree.{Json, Members, Name}
-use Rattle.json.specs.Machine.{Frame, array, object, Role, value, Mode, go, reads, run, step, got_step, mant_step, nought_step, is_blank, is_hex, is_escape, numeral}
-use Rattle.json.specs.Machine.Role.{name}
-use Rattle.json.specs.Machine.Mode.{want, first, name0, name1, colon, got, chars, esc, hex, neg, nought, int, dot, frac, mant, exp, sign, exps, lit}
-use Rattle.json.specs.Steps as st
+use Rattle.json_text.specs.Tree.{Json, Members, Name}
+use Rattle.json_text.specs.Machine.{Frame, array, object, Role, value, Mode, go, reads, run, step, got_step, mant_step, nought_step, is_blank, is_hex, is_escape, numeral}
+use Rattle.json_text.specs.Machine.Role.{name}
+use Rattle.json_text.specs.Machine.Mode.{want, first, name0, name1, colon, got, chars, esc, hex, neg, nought, int, dot, frac, mant, exp, sign, exps, lit}
+use Rattle.json_text.specs.Steps as st
 use Rattle.grammar.specs.Derived.{spelled, lit-yes}
 
 -- the bytes that close what is open

@@ -1,7 +1,7 @@
 -- Elements and members that are read one after the other.
 use Rattle.std.specs.Prelude.{◌≡◌, refl}
 use Rattle.std.proofs.Common.{◌∙◌, ap}
-use Rattle.json.specs.Tree.{Json, Items, no_items, ◌▸◌, ◌◂◌, Members, empty, member, with, Name}
+use Rattle.json_text.specs.Tree.{Json, Items, no_items, ◌▸◌, ◌◂◌, Members, empty, member, with, Name}
 
 -- the elements us, and then each of vs
 abbrev pub ◌⊕◌ : Items → Items → Items

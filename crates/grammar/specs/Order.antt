@@ -1,8 +1,8 @@
 -- A tree that lies in order: each value stands between the ends of what holds it, and after what stands before it,
 -- a string or a name has room for its bytes and its quotes, and there is room for a bracket or a comma before each element and each name.
 use Rattle.std.specs.Prelude.{ℕ, ◌+◌, ◌≤◌, ◌<◌, Bool, List, length}
-use Rattle.json.specs.Tree.{Json, Items, ◌▸◌, Members, member, Name}
-use Rattle.json.specs.Tree as tree
+use Rattle.json_text.specs.Tree.{Json, Items, ◌▸◌, Members, member, Name}
+use Rattle.json_text.specs.Tree as tree
 
 mutual
   -- the value v stands from p up to e, and so does all that it holds, in order

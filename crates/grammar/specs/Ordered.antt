@@ -3,9 +3,9 @@ use Rattle.std.specs.Prelude.{ℕ, ◌+◌, ◌-◌, ◌≤◌, ◌<◌, List, l
 use Rattle.std.proofs.Common.{arith, length-take, length-drop}
 use Rattle.std.proofs.Math.Seq.{slice}
 use Rattle.utf8.specs.Ascii.{ascii}
-use Rattle.json.specs.Tree.{Json, Items, Members}
-use Rattle.json.specs.Grammar.{Text, name_at}
-use Rattle.json.specs.Grammar as g
+use Rattle.json_text.specs.Tree.{Json, Items, Members}
+use Rattle.json_text.specs.Grammar.{Text, name_at}
+use Rattle.json_text.specs.Grammar as g
 use Rattle.grammar.specs.Induction.{Below, by-levels}
 use Rattle.grammar.specs.Order.{Spans, Row, Rows}
 use Rattle.grammar.specs.Order as o

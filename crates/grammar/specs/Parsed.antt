@@ -5,14 +5,14 @@ use Rattle.std.proofs.Math.Decide.{dec_lt}
 use Rattle.std.proofs.Math.Option.{Option}
 use Rattle.std.proofs.Math.Option as option
 use Rattle.utf8.specs.Ascii.{ascii, is_digit}
-use Rattle.json.specs.Tree.{Json, Items, ◌▸◌, ◌◂◌, Members, member, with}
-use Rattle.json.specs.Tree as tree
-use Rattle.json.specs.Machine.{Frame, array, object, Role, value, Mode, go, dead, reads, bad, step, ending, is_blank, is_hex, is_escape, closed, numeral, literal, hexed}
-use Rattle.json.specs.Machine.Role.{name}
-use Rattle.json.specs.Machine.Mode.{want, first, name0, name1, colon, got, chars, esc, hex, neg, nought, int, dot, frac, mant, exp, sign, lit}
-use Rattle.json.specs.Grammar.{At, Text, name_at}
-use Rattle.json.specs.Grammar as g
-use Rattle.json.specs.Steps as st
+use Rattle.json_text.specs.Tree.{Json, Items, ◌▸◌, ◌◂◌, Members, member, with}
+use Rattle.json_text.specs.Tree as tree
+use Rattle.json_text.specs.Machine.{Frame, array, object, Role, value, Mode, go, dead, reads, bad, step, ending, is_blank, is_hex, is_escape, closed, numeral, literal, hexed}
+use Rattle.json_text.specs.Machine.Role.{name}
+use Rattle.json_text.specs.Machine.Mode.{want, first, name0, name1, colon, got, chars, esc, hex, neg, nought, int, dot, frac, mant, exp, sign, lit}
+use Rattle.json_text.specs.Grammar.{At, Text, name_at}
+use Rattle.json_text.specs.Grammar as g
+use Rattle.json_text.specs.Steps as st
 use Rattle.grammar.specs.Induction.{Below, by-levels, backwards}
 use Rattle.grammar.specs.Joins.{◌⊕◌, items-none, ◌⊞◌, members-empty}
 use Rattle.grammar.specs.Accepts.{Acc, done, pass, Next, ends, more, next, at, acc-go, acc-dead, acc-deep, acc-like, Blanks, b-want, b-first, b-name0, b-name1, b-colon, b-got, Digital, d-int, d-frac, d-exps, blank-stays, digit-stays, which, is?, not-whole, not-closed}

@@ -6,11 +6,11 @@ use Rattle.std.proofs.Math.ListN.{get_or-append}
 use Rattle.std.proofs.Math.Seq.{take-length}
 use Rattle.std.proofs.lemmas.List.{take-append-le}
 use Rattle.utf8.specs.Laws.{clash}
-use Rattle.json.specs.Tree.{Json}
-use Rattle.json.specs.Grammar.{At, Text, Begins}
-use Rattle.json.specs.Machine.{Frame, Mode, Step, go, dead, deep, Outcome, bad, too_deep, step, run, ending, finish}
-use Rattle.json.specs.Machine.Outcome.{reads}
-use Rattle.json.specs.Machine.Mode.{want, first, name0, name1, colon, got, chars, esc, hex, neg, nought, int, dot, frac, mant, exp, sign, exps, lit}
+use Rattle.json_text.specs.Tree.{Json}
+use Rattle.json_text.specs.Grammar.{At, Text, Begins}
+use Rattle.json_text.specs.Machine.{Frame, Mode, Step, go, dead, deep, Outcome, bad, too_deep, step, run, ending, finish}
+use Rattle.json_text.specs.Machine.Outcome.{reads}
+use Rattle.json_text.specs.Machine.Mode.{want, first, name0, name1, colon, got, chars, esc, hex, neg, nought, int, dot, frac, mant, exp, sign, exps, lit}
 use Rattle.grammar.specs.Accepts.{Acc, pass, from-run, acc-go, acc-deep, passed}
 use Rattle.grammar.specs.Derived.{derived}
 use Rattle.grammar.specs.Parsed.{parsed}

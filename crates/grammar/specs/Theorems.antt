@@ -3,10 +3,10 @@
 use Rattle.std.specs.Prelude.{ℕ, ◌+◌, ◌≤◌, ◌<◌, ◌≡◌, refl, List, [], ◌⊎◌, ◌↔◌, length, take}
 use Rattle.std.proofs.Common.{arith, sym, ◌∙◌, inl, inr}
 use Rattle.utf8.specs.Laws.{clash}
-use Rattle.json.specs.Tree.{Json}
-use Rattle.json.specs.Machine.{Outcome, reads, bad, too_deep, run, read}
-use Rattle.json.specs.Machine.Mode.{want}
-use Rattle.json.specs.Grammar.{Text, Begins}
+use Rattle.json_text.specs.Tree.{Json}
+use Rattle.json_text.specs.Machine.{Outcome, reads, bad, too_deep, run, read}
+use Rattle.json_text.specs.Machine.Mode.{want}
+use Rattle.json_text.specs.Grammar.{Text, Begins}
 use Rattle.grammar.specs.Order.{Spans}
 use Rattle.grammar.specs.Accepts.{to-run, from-run}
 use Rattle.grammar.specs.Derived.{derived}

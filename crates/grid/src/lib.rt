@@ -1,4 +1,6 @@
 // A set of pairs of numbers, as bits: a row of 128 bytes for each first number, and in it a bit for each second one, which is below 1,024.
+#![tactic(auto)]
+
 ghost use Rattle.std.specs.Prelude.{◌+◌, ◌*◌, ◌^◌, ◌<◌, ◌≤◌, ◌≡◌, length};
 ghost use Rattle.grid.specs.Grid.{holds, Puts};
 

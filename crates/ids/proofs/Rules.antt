@@ -11,10 +11,10 @@ use mir.Val.{Fits}
 use mir.Syntax.{w64}
 use Rattle.utf8.specs.Utf8.{same}
 use Rattle.strings.specs.Spans.{Span, decode_at}
-use Rattle.json.specs.Tree.{Json}
-use Rattle.json.specs.Tree as tree
-use Rattle.json.specs.Table.{Sub}
-use Rattle.json.specs.Laws.{words}
+use Rattle.json_text.specs.Tree.{Json}
+use Rattle.json_text.specs.Tree as tree
+use Rattle.json_text.specs.Table.{Sub}
+use Rattle.json_text.specs.Laws.{words}
 use Rattle.nodes.specs.Access.{is_string_value, text_of, name_of, Member}
 use Rattle.nodes.specs.Laws.{raw_of, string-at, text-at, quoted-at}
 use Rattle.everywhere.specs.Says.{text_at}

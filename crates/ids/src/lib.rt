@@ -1,4 +1,6 @@
 // The IDs of city objects over the node table of a text: which of them a string is.
+#![tactic(auto)]
+
 ghost use Rattle.std.specs.Prelude.{ℕ, ◌+◌, ◌<◌, ◌≡◌, length, get_or};
 ghost use Rattle.utf8.specs.Utf8 as utf8;
 ghost use Rattle.everywhere.specs.Chains.{chain_of};

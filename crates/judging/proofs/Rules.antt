@@ -7,7 +7,7 @@ use mathlib.Core.List.{List}
 use lib.Dec.{leb}
 use borrow.Author.Rules.{rules}
 use borrow.Author.Tests.{leb-true}
-use Rattle.json.specs.Machine.{read}
+use Rattle.json_text.specs.Machine.{read}
 use Rattle.nodes.specs.Faults.{no_fault}
 use Rattle.schema.specs.declared.Walked.{Walked}
 use Rattle.verdict.specs.Verdict.{parsed, screening, verdict}

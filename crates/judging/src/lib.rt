@@ -1,7 +1,9 @@
 // Judges a CityJSON text by the rules of docs/RULES.md.
+#![tactic(auto)]
+
 ghost use Rattle.std.specs.Prelude.{◌≤◌, ◌≡◌, length};
 ghost use Rattle.verdict.specs.Verdict.{parsed, verdict};
-ghost use Rattle.json.specs.Machine.{read};
+ghost use Rattle.json_text.specs.Machine.{read};
 ghost use Rattle.examining.specs.Examining.{Room, Stands, RowRoom};
 ghost use Rattle.judging.specs.Judging.{verdict_of};
 

@@ -1,4 +1,6 @@
 // The library's functions for C: judge and lay, each with its answer in a struct of five numbers.
+#![tactic(auto)]
+
 ghost use Rattle.std.specs.Prelude.{◌^◌, ◌<◌, ◌≡◌, length};
 ghost use Rattle.verdict.specs.Verdict.{verdict};
 ghost use Rattle.refusals.specs.Refusals.{rule_number};

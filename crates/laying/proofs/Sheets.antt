@@ -6,8 +6,8 @@ use mathlib.Core.List.{List, [], ◌++◌, map}
 use lib.ListN.{length, take, drop, replicate, length-replicate}
 use borrow.Author.Rules.{rules}
 use borrow.Author.Tests.{le-leb, lt-leb}
-use Rattle.json.specs.Tree.{Json}
-use Rattle.json.specs.Machine.{read, reads, tree_in, tree_of}
+use Rattle.json_text.specs.Tree.{Json}
+use Rattle.json_text.specs.Machine.{read, reads, tree_in, tree_of}
 use Rattle.everywhere.specs.Everywhere.{rule5, rule6}
 use Rattle.nodes.specs.Faults.{fault, least, no_fault}
 use Rattle.fields.specs.Fields.{objects_of}

@@ -1,7 +1,9 @@
 // Lays out a CityJSON text as a sheet of records.
+#![tactic(auto)]
+
 ghost use Rattle.std.specs.Prelude.{◌≤◌, ◌≡◌, length};
 ghost use Rattle.verdict.specs.Verdict.{parsed};
-ghost use Rattle.json.specs.Machine.{read};
+ghost use Rattle.json_text.specs.Machine.{read};
 ghost use Rattle.sheets.specs.Laid.{answer, room_after};
 ghost use Rattle.examining.specs.Examining.{Stands, Room, RowRoom};
 ghost use Rattle.laying.specs.Laying.{answered, Zeroes, Clean, CleanBy, Lays};

@@ -9,7 +9,7 @@ use lib.Dec.{ltb}
 use borrow.Author.Tests.{not-true, not-false, ltb-true}
 use Rattle.grid.specs.Laws.{empty}
 use Rattle.words.specs.Words.{has}
-use Rattle.json.specs.Tree.{Json}
+use Rattle.json_text.specs.Tree.{Json}
 use Rattle.model.specs.Model.{object_number}
 use Rattle.nodes.specs.Access.{is_string_value, is_array_value, text_of, members, Member, first_named}
 use Rattle.everywhere.specs.Everywhere.{among}

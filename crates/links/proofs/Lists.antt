@@ -6,8 +6,8 @@ use mathlib.Core.Bool.{Bool, not, false}
 use mathlib.Core.List.{List, [], ◌∷◌, map}
 use mathlib.Core.Option.{none}
 use lib.ListN.{length, get_or, drop, length-drop, length-map}
-use Rattle.json.specs.Tree.{Json}
-use Rattle.json.specs.Table.{Sub}
+use Rattle.json_text.specs.Tree.{Json}
+use Rattle.json_text.specs.Table.{Sub}
 use Rattle.nodes.specs.Access.{is_array_value, elements, members, Member, first_named}
 use Rattle.nodes.specs.Says.{Node, Gives, Seeks, Finds}
 use Rattle.nodes.specs.declared.Found.{Found}

@@ -11,7 +11,7 @@ use borrow.Author.Tests.{eq-eqb, ne_eqb, lt-ltb, le-ltb, ltb-true, ltb-false}
 use Rattle.utf8.specs.Utf8.{same}
 use Rattle.utf8.specs.Laws.{same-equal, same_refl, never}
 use Rattle.words.specs.Words.{has}
-use Rattle.json.specs.Tree.{Json}
+use Rattle.json_text.specs.Tree.{Json}
 use Rattle.model.specs.Model.{object_number}
 use Rattle.nodes.specs.Access.{is_string_value, text_of, Member, name_of, first_named}
 use Rattle.everywhere.specs.Everywhere.{among}

@@ -13,7 +13,7 @@ use Rattle.utf8.specs.Ascii.{ascii}
 use Rattle.utf8.specs.Laws.{clash, both_left, both_right}
 use Rattle.grid.specs.Grid.{holds}
 use Rattle.words.specs.Words.{has, is}
-use Rattle.json.specs.Tree.{Json}
+use Rattle.json_text.specs.Tree.{Json}
 use Rattle.model.specs.Model.{object_number}
 use Rattle.nodes.specs.Access.{is_string_value, is_array_value, text_of, members, Member, first_named, find}
 use Rattle.everywhere.specs.Everywhere.{among}

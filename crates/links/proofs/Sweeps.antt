@@ -18,7 +18,7 @@ use Rattle.utf8.specs.Utf8.{same}
 use Rattle.utf8.specs.Laws.{both_left, both_right}
 use Rattle.words.specs.Words.{object_words, code_of, has, is, is_second_level}
 use Rattle.grid.specs.Laws.{empty}
-use Rattle.json.specs.Tree.{Json}
+use Rattle.json_text.specs.Tree.{Json}
 use Rattle.model.specs.Code.{concat_map}
 use Rattle.model.specs.Model.{object_number}
 use Rattle.nodes.specs.Access.{is_string_value, name_of, Member, find}

@@ -2,8 +2,8 @@
 use Rattle.std.specs.Prelude.{◌≡◌, false, List, [], ◌∷◌, ◌++◌, map, ℕ, ◌+◌, ◌*◌, ◌<◌, ◌≤◌, length, get_or}
 use Prim.Native.String.{String}
 use Rattle.words.specs.Words as word
-use Rattle.json.specs.Tree.{Json}
-use Rattle.json.specs.Table.{Sub}
+use Rattle.json_text.specs.Tree.{Json}
+use Rattle.json_text.specs.Table.{Sub}
 use Rattle.model.specs.Code.{concat_map}
 use Rattle.model.specs.Model.{object_number}
 use Rattle.nodes.specs.Access.{Member, elements}

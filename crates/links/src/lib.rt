@@ -2,6 +2,8 @@
 // Each function that looks for faults takes the least so far and gives the least.
 // Rule 15 goes first and fills two sets of pairs of objects' numbers: who lists whom as a child, and who lists whom as a parent. Rule 17 then asks the sets.
 // Rows are judged by their numbers; only where one breaks a rule is its list looked up, for the places.
+#![tactic(auto)]
+
 ghost use Rattle.std.specs.Prelude.{◌<◌, ◌≤◌, length};
 ghost use Rattle.utf8.specs.Ascii.{ascii};
 ghost use Rattle.words.specs.Words.{object_words, code_of, is, is_second_level};

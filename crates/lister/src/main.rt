@@ -1,5 +1,7 @@
 // Reads a text on standard input, lays it in a sheet of 65,536 bytes and prints one line, as `laid 78 bytes, objects 0` or `refused 8 at 0 to 2`.
 // The library `listing` has all of it but the calls of the system. Where reading or writing fails, standard error says why, and no line is printed.
+#![tactic(auto)]
+
 ghost use Rattle.io.specs.Counts.{IsPrefixLen};
 
 use libc::{STDIN_FILENO, STDOUT_FILENO};

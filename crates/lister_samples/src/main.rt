@@ -1,5 +1,7 @@
 // The sample readings (docs/TRACE.md) in the order of the paper's table, then `{"a":1,"a":2}`, `{}` and the kiosk: the line that the lister
 // prints for each.
+#![tactic(auto)]
+
 use libc::STDOUT_FILENO;
 
 // Prints the line of a text.

@@ -1,4 +1,6 @@
 // The line that the lister prints for a text.
+#![tactic(auto)]
+
 ghost use Rattle.std.specs.Prelude.{◌≡◌, ◌++◌, length, drop};
 ghost use Rattle.io.specs.Counts.{IsPrefixLen};
 ghost use Rattle.sheets.specs.Laid.{answer, laid, refused};

@@ -1,5 +1,7 @@
 // Sets of pairs of objects' numbers, filled from a flat table of rows and asked by a row.
 // In a table, word k says where the row of the object of number k begins, word k + 1 where it ends.
+#![tactic(auto)]
+
 ghost use Rattle.std.specs.Prelude.{◌+◌, ◌*◌, ◌<◌, ◌≤◌, ◌≡◌, length, get_or};
 ghost use Rattle.marks.specs.Marks.{row_of};
 ghost use Rattle.marks.specs.Marks as marks;

@@ -9,7 +9,7 @@ use Rattle.model.specs.Good.{Both}
 use Rattle.words.specs.Words.{code_of, geometry_words, object_words}
 use Rattle.numerals.specs.Numerals.{decimal, whole_of}
 use Rattle.strings.specs.Strings.{decode}
-use Rattle.json.specs.Tree.{Json, null, bool, num, str, arr, obj, Items, no_items, ◌▸◌, Members, empty, member}
+use Rattle.json_text.specs.Tree.{Json, null, bool, num, str, arr, obj, Items, no_items, ◌▸◌, Members, empty, member}
 use Rattle.nodes.specs.Access.{Member, listed, pairs, elements, members, name_of, text_of, first_named, find}
 use Rattle.model.specs.Read.{get, or_null, maybe_decimal, zero_if_none, decimal_of, integer_of, natural, index_of, value_of, three_of, nest_of, lod_of, surface_named, surface_of, semantics_of, geometry_of, object_of, model_of}
 

@@ -7,8 +7,8 @@ use Rattle.utf8.specs.Utf8.{same}
 use Rattle.utf8.specs.Laws.{never, same_refl}
 use Rattle.strings.specs.Strings.{decode}
 use Rattle.numerals.specs.Numerals.{decimal, whole_of}
-use Rattle.json.specs.Tree.{Json, ◌◂◌, with}
-use Rattle.json.specs.Machine.{tree_of, step, want_step, got_step, next_step, name_step, mant_step, nought_step, is_blank, is_hex, is_escape}
+use Rattle.json_text.specs.Tree.{Json, ◌◂◌, with}
+use Rattle.json_text.specs.Machine.{tree_of, step, want_step, got_step, next_step, name_step, mant_step, nought_step, is_blank, is_hex, is_escape}
 use Rattle.nodes.specs.Access.{is_null_value, is_number_value, is_string_value, is_array_value, listed, elements, members, name_of, text_of, numeral_of, find}
 use Rattle.model.specs.Model.{Three}
 use Rattle.model.specs.Read.{get, or_null, maybe_decimal, zero_if_none, decimal_of, integer_of, natural, three_of, model_of}

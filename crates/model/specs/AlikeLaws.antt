@@ -9,7 +9,7 @@ use Rattle.std.proofs.Math.Option as option
 use Rattle.utf8.specs.Utf8.{same}
 use Rattle.utf8.specs.Laws.{clash, never, unless, same-equal, same_refl}
 use Rattle.strings.specs.Strings.{decode}
-use Rattle.json.specs.Tree.{Json, null, bool, num, str, arr, obj, Items, no_items, ◌▸◌, Members, empty, member}
+use Rattle.json_text.specs.Tree.{Json, null, bool, num, str, arr, obj, Items, no_items, ◌▸◌, Members, empty, member}
 use Rattle.nodes.specs.Access.{Member, listed, pairs, elements, members, name_of, first_named, find}
 use Rattle.everywhere.specs.Everywhere.{among, repeated, rule6, rule6_in, rule6_of}
 use Rattle.model.specs.Code.{All}

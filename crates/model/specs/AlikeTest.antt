@@ -8,7 +8,7 @@ use Rattle.utf8.specs.Utf8.{same}
 use Rattle.utf8.specs.Laws.{clash, both_left, both_right, same-equal}
 use Rattle.strings.specs.Strings.{decode}
 use Rattle.numerals.specs.Numerals.{Decimal, decimal}
-use Rattle.json.specs.Tree.{Json, null, bool, num, str, arr, obj, Items, no_items, ◌▸◌}
+use Rattle.json_text.specs.Tree.{Json, null, bool, num, str, arr, obj, Items, no_items, ◌▸◌}
 use Rattle.nodes.specs.Access.{is_null_value, is_number_value, is_string_value, is_array_value, listed, elements, members, name_of, text_of, numeral_of, find}
 use Rattle.model.specs.Good.{Both}
 use Rattle.model.specs.Alike.{Same, SameAll, Shape, whole, list, entries, field, none-else, Perhaps, Agree}

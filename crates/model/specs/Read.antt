@@ -6,8 +6,8 @@ use Rattle.std.proofs.Math.Option.{Option, none, some}
 use Prim.Native.String.{String}
 use Rattle.numerals.specs.Numerals.{Decimal, decimal, whole_of}
 use Rattle.words.specs.Words.{object_words, geometry_words, surface_words, code_of, depth, values_depth}
-use Rattle.json.specs.Tree as tree
-use Rattle.json.specs.Tree.{Json}
+use Rattle.json_text.specs.Tree as tree
+use Rattle.json_text.specs.Tree.{Json}
 use Rattle.nodes.specs.Access.{Member, elements, members, name_of, text_of, find}
 use Rattle.model.specs.Model.{Nest, Three, Lod, Surface, listed, added, Semantics, Geometry, Object, Model}
 

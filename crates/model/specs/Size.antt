@@ -18,7 +18,7 @@ use Rattle.model.specs.Model.{lay_rec, lay_three, lay_decimal, lod_code, lay_nes
 use Rattle.utf8.specs.Ascii.{ascii}
 use Rattle.words.specs.Words.{code_of, surface_words}
 use Rattle.strings.specs.Strings.{decode}
-use Rattle.json.specs.Tree.{Json, null, bool, num, str, arr, obj, Items, no_items, ◌▸◌, Members, empty, member}
+use Rattle.json_text.specs.Tree.{Json, null, bool, num, str, arr, obj, Items, no_items, ◌▸◌, Members, empty, member}
 use Rattle.nodes.specs.Access.{Member, listed, pairs, elements, members, name_of, text_of, first_named, find}
 use Rattle.model.specs.Read.{get, or_null, integer_of, index_of, value_of, three_of, nest_of, surface_named, surface_of, semantics_of, geometry_of, object_of, model_of}
 use Rattle.model.specs.Weigh.{length-le, length-signed, weight, weight-cons, weight-append}

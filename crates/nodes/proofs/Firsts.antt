@@ -9,9 +9,9 @@ use lib.Dec.{eqb}
 use borrow.Author.Rules.{rules}
 use borrow.Author.Tests.{ne_eqb, le-leb, lt-leb}
 use Rattle.utf8.specs.Ascii.{is_digit}
-use Rattle.json.specs.Tree.{Json}
-use Rattle.json.specs.Table.{is_numeric, Sub}
-use Rattle.json.specs.Laws.{words}
+use Rattle.json_text.specs.Tree.{Json}
+use Rattle.json_text.specs.Table.{is_numeric, Sub}
+use Rattle.json_text.specs.Laws.{words}
 use Rattle.nodes.specs.Access.{is_null_value, is_number_value, is_string_value, is_array_value, is_object_value}
 use Rattle.nodes.specs.Says.{Node, Gives}
 use Rattle.nodes.specs.Laws.{Kinds, kinds}

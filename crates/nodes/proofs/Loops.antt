@@ -11,9 +11,9 @@ use borrow.Author.Rules.{rules}
 use borrow.Author.Tests.{not-true, not-false}
 use Rattle.utf8.specs.Utf8.{same}
 use Rattle.strings.specs.Spans.{decode_at}
-use Rattle.json.specs.Tree.{Json, Members}
-use Rattle.json.specs.Table.{Sub}
-use Rattle.json.specs.Laws.{words, sub_within, Left, Past, past, over, ended, MembersLeft, MemberPast, member-past, member-over, members-ended}
+use Rattle.json_text.specs.Tree.{Json, Members}
+use Rattle.json_text.specs.Table.{Sub}
+use Rattle.json_text.specs.Laws.{words, sub_within, Left, Past, past, over, ended, MembersLeft, MemberPast, member-past, member-over, members-ended}
 use Rattle.nodes.specs.Access.{is_array_value, is_object_value, listed, elements, pairs, members, Member, name_of, first_named}
 use Rattle.nodes.specs.Says.{Node, Gives, Finds, Seeks}
 use Rattle.nodes.specs.declared.Found.TheVariants.{At, Nothing}

@@ -8,10 +8,10 @@ use Rattle.utf8.specs.Ascii.{is_digit}
 use Rattle.utf8.specs.Laws.{never}
 use Rattle.strings.specs.Strings.{decode}
 use Rattle.strings.specs.Spans.{Span, decode_at}
-use Rattle.json.specs.Tree.{Json, Members, place_of}
-use Rattle.json.specs.Tree as tree
-use Rattle.json.specs.Table.{Quoted, is_numeric, Sub, null, bool, num, str, arr, obj}
-use Rattle.json.specs.Laws.{other_byte, words, Left, begin, MembersLeft, members-begin}
+use Rattle.json_text.specs.Tree.{Json, Members, place_of}
+use Rattle.json_text.specs.Tree as tree
+use Rattle.json_text.specs.Table.{Quoted, is_numeric, Sub, null, bool, num, str, arr, obj}
+use Rattle.json_text.specs.Laws.{other_byte, words, Left, begin, MembersLeft, members-begin}
 use Rattle.nodes.specs.Faults.{least}
 use Rattle.nodes.specs.Access.{is_null_value, is_number_value, is_string_value, is_array_value, is_object_value, listed, elements, pairs, members, Member, text_of, numeral_of}
 

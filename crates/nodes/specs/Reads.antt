@@ -3,9 +3,9 @@ use Rattle.std.specs.Prelude.{ℕ, ◌+◌, ◌*◌, ◌-◌, ◌^◌, ◌≤◌
 use Rattle.std.proofs.Common.{arith, Fits}
 use Rattle.std.specs.Int.{w64}
 use Rattle.strings.specs.Spans.{Span}
-use Rattle.json.specs.Tree.{Members}
-use Rattle.json.specs.Table.{widths, Fields}
-use Rattle.json.specs.Laws.{words, MembersLeft, MemberPast, member-past}
+use Rattle.json_text.specs.Tree.{Members}
+use Rattle.json_text.specs.Table.{widths, Fields}
+use Rattle.json_text.specs.Laws.{words, MembersLeft, MemberPast, member-past}
 use Rattle.nodes.specs.Says.{Node}
 use Rattle.nodes.specs.Laws.{StringAt, quoted-at}
 

@@ -1,8 +1,8 @@
 -- What the functions over a node table ask and tell.
 use Rattle.std.specs.Prelude.{◌≡◌, List, ℕ, ◌≤◌, length}
 use Rattle.std.proofs.Math.Option.{Option, none, some}
-use Rattle.json.specs.Tree.{Json}
-use Rattle.json.specs.Table.{Sub, size}
+use Rattle.json_text.specs.Tree.{Json}
+use Rattle.json_text.specs.Table.{Sub, size}
 use Rattle.nodes.specs.declared.Found.{Found}
 use Rattle.nodes.specs.declared.Found.TheVariants.{At, Nothing}
 

@@ -2,9 +2,9 @@
 use Rattle.std.specs.Prelude.{ℕ, ◌+◌, ◌-◌, ◌≤◌, ◌<◌, ◌≡◌, Bool, not, false, List, [], ◌∷◌, length, get_or}
 use Rattle.std.proofs.Common.{arith, sym, ◌∙◌}
 use Rattle.std.proofs.lemmas.Bool.{not-false}
-use Rattle.json.specs.Tree.{Json}
-use Rattle.json.specs.Table.{Sub}
-use Rattle.json.specs.Laws.{Left, Past, past, over, ended}
+use Rattle.json_text.specs.Tree.{Json}
+use Rattle.json_text.specs.Table.{Sub}
+use Rattle.json_text.specs.Laws.{Left, Past, past, over, ended}
 use Rattle.nodes.specs.Access.{is_array_value, listed, elements}
 use Rattle.nodes.specs.Laws.{elements-begin}
 use Rattle.nodes.specs.Says.{Node, Gives}

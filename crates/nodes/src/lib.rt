@@ -1,5 +1,7 @@
 // Nodes of the table of a JSON text: what stands at a node, and what stands below it.
 // A fault is a rule with its place as one number; a function that looks for faults takes the least so far and gives the least.
+#![tactic(auto)]
+
 ghost use Rattle.std.specs.Prelude.{◌+◌, ◌*◌, ◌<◌, ◌≤◌, min, ◌≡◌, length, get_or};
 ghost use Rattle.nodes.specs.Access.{is_null_value, is_number_value, is_string_value, is_array_value, is_object_value, elements, members, first_named};
 ghost use Rattle.nodes.specs.Faults.{fault};

@@ -1,5 +1,7 @@
 // JSON numerals (RFC 8259, section 6) by their value: integers, and pairs (m, e) that mean m times ten to the e.
 // A numeral is given by the text and two offsets, `at` of its first byte and `end` past its last.
+#![tactic(auto)]
+
 ghost use Rattle.std.specs.Prelude.{◌+◌, ◌-◌, ◌*◌, ◌^◌, ◌≤◌, ◌<◌, min, true, cond, ◌≡◌, length};
 ghost use Rattle.std.proofs.Math.Seq.{slice};
 ghost use Rattle.std.proofs.Math.IntN.{sub_ℕ};

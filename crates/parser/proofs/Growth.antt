@@ -8,24 +8,24 @@ use native.Mathlib.Omega.{arith}
 use lib.ListN.{length, get_or}
 use lib.Dec.{T, leb}
 use borrow.Author.Tests.{leb-true, leb-false}
-use Rattle.json.specs.Tree.{Json, Items, ◌◂◌, Members, with, Name}
-use Rattle.json.specs.Tree as tree
-use Rattle.json.specs.Machine.{Frame, array, object, Mode, step, go, dead, ending, finish, bad, too_deep, reads, read, is_blank}
-use Rattle.json.specs.Machine.Mode.{want, first, name0, name1, got}
-use Rattle.json.specs.Table.{size, sizes, widths, Sub, arr, obj, Subs, nil, Fields, last}
-use Rattle.json.specs.Says.{from, Stays, Skips, blanks, Plain, Scalar, Digits}
+use Rattle.json_text.specs.Tree.{Json, Items, ◌◂◌, Members, with, Name}
+use Rattle.json_text.specs.Tree as tree
+use Rattle.json_text.specs.Machine.{Frame, array, object, Mode, step, go, dead, ending, finish, bad, too_deep, reads, read, is_blank}
+use Rattle.json_text.specs.Machine.Mode.{want, first, name0, name1, got}
+use Rattle.json_text.specs.Table.{size, sizes, widths, Sub, arr, obj, Subs, nil, Fields, last}
+use Rattle.json_text.specs.Says.{from, Stays, Skips, blanks, Plain, Scalar, Digits}
 use Rattle.parser.specs.Says.{Fits, Wrote, Atomic, Ready, Opened, Read, Told, Named, Names, Membered, Member, Atom, Then, Other, Neither, Begins, Follows}
-use Rattle.json.specs.Parse.{Tells}
-use Rattle.json.specs.Laws.{sizes-◂, widths-with, subs-◂, fields-with, same-subs, same-fields, same-quoted}
-use Rattle.json.specs.Steps.{open_array, open-object, deep-array, deep-object, first-close, first_else, name0-close, name0-else, array-comma, array-close, array-no, object-comma, object-close, object-no, got-end}
-use Rattle.json.specs.declared.Scan.{Scan}
-use Rattle.json.specs.declared.Scan.TheVariants as scan
+use Rattle.json_text.specs.Parse.{Tells}
+use Rattle.json_text.specs.Laws.{sizes-◂, widths-with, subs-◂, fields-with, same-subs, same-fields, same-quoted}
+use Rattle.json_text.specs.Steps.{open_array, open-object, deep-array, deep-object, first-close, first_else, name0-close, name0-else, array-comma, array-close, array-no, object-comma, object-close, object-no, got-end}
+use Rattle.json_text.specs.declared.Scan.{Scan}
+use Rattle.json_text.specs.declared.Scan.TheVariants as scan
 use Rattle.parser.specs.declared.Next.{Next}
 use Rattle.parser.specs.declared.Next.TheVariants as next
 use Rattle.parser.specs.declared.Walk.{Walk}
 use Rattle.parser.specs.declared.Walk.TheVariants as walk
-use Rattle.json.specs.declared.Parsed.TheVariants as parsed
-use Rattle.json.proofs.Moves.{at-end, moves, dies, deepens, alike, short, stays-none}
+use Rattle.json_text.specs.declared.Parsed.TheVariants as parsed
+use Rattle.json_text.proofs.Moves.{at-end, moves, dies, deepens, alike, short, stays-none}
 use Rattle.scalars.proofs.Leaves.{words_of}
 use Rattle.parser.proofs.Nodes.{atom-fits}
 

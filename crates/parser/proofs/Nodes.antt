@@ -10,17 +10,17 @@ use borrow.Author.Tests.{ltb-true}
 use lib.Dec.{ltb}
 use Rattle.utf8.specs.Ascii.{ascii}
 use Rattle.utf8.specs.Finite.{each_below}
-use Rattle.json.specs.Tree.{Members}
-use Rattle.json.specs.Machine.{Frame, is_blank}
-use Rattle.json.specs.Machine.Role.{name}
-use Rattle.json.specs.Machine.Mode.{name1, colon, chars}
-use Rattle.json.specs.Says.{from, Within, Stays, Skips, blanks, chars_of, closed_of, ReadsString, Unescaped, type_start, Typed, Placed, Leaf, Scalar}
-use Rattle.json.specs.declared.Scan.{Scan}
-use Rattle.json.specs.declared.Scan.TheVariants.{End, Bad}
-use Rattle.json.specs.Steps.{name-quote, name-no, colon-yes, colon-no}
-use Rattle.json.specs.Laws.{over-blank}
-use Rattle.json.proofs.Moves.{moves, dies, short, stays-none}
-use Rattle.json.proofs.Parts.{string-start, string-run, string-shut}
+use Rattle.json_text.specs.Tree.{Members}
+use Rattle.json_text.specs.Machine.{Frame, is_blank}
+use Rattle.json_text.specs.Machine.Role.{name}
+use Rattle.json_text.specs.Machine.Mode.{name1, colon, chars}
+use Rattle.json_text.specs.Says.{from, Within, Stays, Skips, blanks, chars_of, closed_of, ReadsString, Unescaped, type_start, Typed, Placed, Leaf, Scalar}
+use Rattle.json_text.specs.declared.Scan.{Scan}
+use Rattle.json_text.specs.declared.Scan.TheVariants.{End, Bad}
+use Rattle.json_text.specs.Steps.{name-quote, name-no, colon-yes, colon-no}
+use Rattle.json_text.specs.Laws.{over-blank}
+use Rattle.json_text.proofs.Moves.{moves, dies, short, stays-none}
+use Rattle.json_text.proofs.Parts.{string-start, string-run, string-shut}
 use Rattle.scalars.proofs.Leaves.{quoted-of, scalar-string}
 use Rattle.parser.specs.Says.{Fits, Wrote, Quote, Ready, Atom, Colons, Names, Begins, Follows}
 use Rattle.parser.specs.declared.Next.TheVariants as next

@@ -5,8 +5,8 @@ use mathlib.Core.List.{List}
 use mathlib.Core.Bool.{false}
 use lib.ListN.{length, get_or}
 use borrow.Author.Rules.{rules}
-use Rattle.json.specs.Machine.{is_blank}
-use Rattle.json.specs.Says.{Skips, blanks}
+use Rattle.json_text.specs.Machine.{is_blank}
+use Rattle.json_text.specs.Says.{Skips, blanks}
 use Rattle.parser.proofs.Nodes.{atom-fits, atom-read, atom-bad, text-fits, text-read, text-bad, string-high, name_out, name-wrong, name-break, colon-out, colon-wrong, named, colon-once, colon-there, at-quote, type-fits, type-named, opens-out, opens-closed, opens-more, follows-out, follows-closed, follows-comma, follows-wrong}
 use Rattle.parser.proofs.Growth.{ready-node, digits-fit, digits-read, item-atom, value_out, value-atom, atom-asks, value-deep-array, value-deep-object, opens, value-array, value-object, array-out, array-empty-fits, array-empty, array-starts, element-asks, array-bad, array-deep, element-high, element-less, array-wrong, array-fits, array-more, array-closes, object-out, object-empty-fits, object-empty, object-starts, name-asks, member-bad, member-asks, member-read, object-bad, object-deep, member-high, member-less, object-wrong, object-fits, object-more, object-closes, parse-asks, parse-bad, parse-deep, parse-trailing, parse-whole, parse-long, parse-short, told-high}
 

@@ -1,12 +1,12 @@
 -- What the parts of the parser say of the machine and of the table.
 use Rattle.std.specs.Prelude.{ℕ, ◌+◌, ◌*◌, ◌^◌, ◌≤◌, ◌<◌, ◌≡◌, List, ◌∷◌, length, get_or}
-use Rattle.json.specs.Tree.{Json, Members, Name}
-use Rattle.json.specs.Machine.{Frame, Mode, bad, too_deep, object, is_blank}
-use Rattle.json.specs.Machine.Mode.{want, name1, colon, got}
-use Rattle.json.specs.Table.{size, Sub, Quoted}
-use Rattle.json.specs.Says.{from, Skips, blanks, Placed, Leaf}
-use Rattle.json.specs.declared.Scan.{Scan}
-use Rattle.json.specs.declared.Scan.TheVariants as scan
+use Rattle.json_text.specs.Tree.{Json, Members, Name}
+use Rattle.json_text.specs.Machine.{Frame, Mode, bad, too_deep, object, is_blank}
+use Rattle.json_text.specs.Machine.Mode.{want, name1, colon, got}
+use Rattle.json_text.specs.Table.{size, Sub, Quoted}
+use Rattle.json_text.specs.Says.{from, Skips, blanks, Placed, Leaf}
+use Rattle.json_text.specs.declared.Scan.{Scan}
+use Rattle.json_text.specs.declared.Scan.TheVariants as scan
 use Rattle.parser.specs.declared.Next.{Next}
 use Rattle.parser.specs.declared.Next.TheVariants as next
 use Rattle.parser.specs.declared.Walk.{Walk}

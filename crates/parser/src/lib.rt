@@ -1,9 +1,11 @@
 // JSON texts (RFC 8259): a text is read once, and the node table of its tree is written.
+#![tactic(auto)]
+
 ghost use Rattle.std.specs.Prelude.{◌+◌, ◌≤◌, length};
-ghost use Rattle.json.specs.Machine.{is_blank};
-ghost use Rattle.json.specs.Machine.Mode.{want, first, name0};
-ghost use Rattle.json.specs.Says.{blanks, Skips, Plain};
-ghost use Rattle.json.specs.Parse.{Tells};
+ghost use Rattle.json_text.specs.Machine.{is_blank};
+ghost use Rattle.json_text.specs.Machine.Mode.{want, first, name0};
+ghost use Rattle.json_text.specs.Says.{blanks, Skips, Plain};
+ghost use Rattle.json_text.specs.Parse.{Tells};
 ghost use Rattle.parser.specs.Says.{Fits, Wrote, Quote, Atom, Ready, Opened, Told, Colons, Names, Begins, Follows, Member};
 
 // What a value is: one past its last byte, and the first free word of the table after it; or the offset of a byte that no JSON text
@@ -41,8 +43,8 @@ fn atom(text: &[u8], at: usize, table: &mut [u32], n: usize) -> Walk
 {
     let r = scalars::scalar(text, at);
     match r {
-        json::Scan::Bad(q) => Walk::Bad(q),
-        json::Scan::End(e) => {
+        json_text::Scan::Bad(q) => Walk::Bad(q),
+        json_text::Scan::End(e) => {
             put_node(table, n, at, e, n + 3);
             Walk::Read(e, n + 3)
         }
@@ -54,10 +56,10 @@ fn text_node(text: &[u8], at: usize, table: &mut [u32], n: usize) -> Walk
     requires { (Quote text.now at) × (Ready text.now table.old at 0 32 n) }
     ensures { Atom text.now table.old table.new at n result }
 {
-    let r = json::closing(text, at + 1);
+    let r = json_text::closing(text, at + 1);
     match r {
-        json::Scan::Bad(q) => Walk::Bad(q),
-        json::Scan::End(e) => {
+        json_text::Scan::Bad(q) => Walk::Bad(q),
+        json_text::Scan::End(e) => {
             put_node(table, n, at, e, n + 3);
             Walk::Read(e, n + 3)
         }
@@ -74,49 +76,49 @@ fn name_start(text: &[u8], at: usize) -> usize
             return at;
         }
     }
-    json::skip_blanks(text, at)
+    json_text::skip_blanks(text, at)
 }
 
 // The colon after a name, which mostly follows at once.
-fn colon(text: &[u8], at: usize) -> json::Scan
+fn colon(text: &[u8], at: usize) -> json_text::Scan
     requires { at ≤ length text.now }
     ensures { Colons text.now at result }
 {
     if at < text.len() {
         if text[at] == b':' {
-            return json::Scan::End(at + 1);
+            return json_text::Scan::End(at + 1);
         }
     }
-    let i = json::skip_blanks(text, at);
+    let i = json_text::skip_blanks(text, at);
     if i >= text.len() {
-        return json::Scan::Bad(i);
+        return json_text::Scan::Bad(i);
     }
     if text[i] != b':' {
-        return json::Scan::Bad(i);
+        return json_text::Scan::Bad(i);
     }
-    json::Scan::End(i + 1)
+    json_text::Scan::End(i + 1)
 }
 
 // The name of a member with its colon, and its node at n.
-fn member_name(text: &[u8], at: usize, table: &mut [u32], n: usize) -> json::Scan
+fn member_name(text: &[u8], at: usize, table: &mut [u32], n: usize) -> json_text::Scan
     requires { Ready text.now table.old at 0 32 n }
     ensures { Names text.now table.old table.new at n result }
 {
-    if json::is_type(text, at) {
+    if json_text::is_type(text, at) {
         put_node(table, n, at, at + 6, n + 3);
-        return json::Scan::End(at + 7);
+        return json_text::Scan::End(at + 7);
     }
     let i = name_start(text, at);
     if i >= text.len() {
-        return json::Scan::Bad(i);
+        return json_text::Scan::Bad(i);
     }
     if text[i] != b'"' {
-        return json::Scan::Bad(i);
+        return json_text::Scan::Bad(i);
     }
-    let r = json::closing(text, i + 1);
+    let r = json_text::closing(text, i + 1);
     match r {
-        json::Scan::Bad(q) => json::Scan::Bad(q),
-        json::Scan::End(e) => {
+        json_text::Scan::Bad(q) => json_text::Scan::Bad(q),
+        json_text::Scan::End(e) => {
             put_node(table, n, i, e, n + 3);
             colon(text, e)
         }
@@ -128,7 +130,7 @@ fn opening(text: &[u8], at: usize, close: u8) -> Next
     requires { at ≤ length text.now }
     ensures { Begins text.now at close result }
 {
-    let i = json::skip_blanks(text, at);
+    let i = json_text::skip_blanks(text, at);
     if i >= text.len() {
         return Next::Bad(i);
     }
@@ -143,7 +145,7 @@ fn after(text: &[u8], at: usize, close: u8) -> Next
     requires { at ≤ length text.now }
     ensures { Follows text.now at close result }
 {
-    let i = json::skip_blanks(text, at);
+    let i = json_text::skip_blanks(text, at);
     if i >= text.len() {
         return Next::Bad(i);
     }
@@ -163,7 +165,7 @@ fn value(text: &[u8], at: usize, levels: usize, table: &mut [u32], n: usize) -> 
     requires { Ready text.now table.old at levels 32 n }
     ensures { Told text.now table.old table.new want at levels 32 n result }
 {
-    let i = json::skip_blanks(text, at);
+    let i = json_text::skip_blanks(text, at);
     if i >= text.len() {
         return Walk::Bad(i);
     }
@@ -321,31 +323,31 @@ fn member(text: &[u8], at: usize, levels: usize, table: &mut [u32], n: usize) ->
 {
     let s = member_name(text, at, table, n);
     match s {
-        json::Scan::Bad(q) => Walk::Bad(q),
-        json::Scan::End(v) => item(text, v, levels, table, n + 3),
+        json_text::Scan::Bad(q) => Walk::Bad(q),
+        json_text::Scan::End(v) => item(text, v, levels, table, n + 3),
     }
 }
 
 // Reads a text, and writes the node table of its tree.
-pub fn parse(text: &[u8], table: &mut [u32]) -> json::Parsed
+pub fn parse(text: &[u8], table: &mut [u32]) -> json_text::Parsed
     ensures { Tells text.now table.old table.new result }
 {
     if text.len() > 65535 {
-        return json::Parsed::Long;
+        return json_text::Parsed::Long;
     }
     if 2 * table.len() < 3 * text.len() + 99 {
-        return json::Parsed::Short;
+        return json_text::Parsed::Short;
     }
     let r = value(text, 0, 32, table, 0);
     match r {
-        Walk::Bad(q) => json::Parsed::Bad(q),
-        Walk::Deep(q) => json::Parsed::Deep(q),
+        Walk::Bad(q) => json_text::Parsed::Bad(q),
+        Walk::Deep(q) => json_text::Parsed::Deep(q),
         Walk::Read(e, n) => {
-            let j = json::skip_blanks(text, e);
+            let j = json_text::skip_blanks(text, e);
             if j < text.len() {
-                return json::Parsed::Bad(j);
+                return json_text::Parsed::Bad(j);
             }
-            json::Parsed::Nodes(n)
+            json_text::Parsed::Nodes(n)
         }
     }
 }

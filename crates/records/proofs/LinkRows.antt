@@ -6,7 +6,7 @@ use mathlib.Core.List.{List, [], ◌∷◌, ◌++◌, map, append_assoc, append-
 use mathlib.Core.Option.{Option, none, some}
 use lib.ListN.{length, get_or, drop, drop_of_length-le}
 use Rattle.utf8.specs.Bytes.{le}
-use Rattle.json.specs.Tree.{Json}
+use Rattle.json_text.specs.Tree.{Json}
 use Rattle.nodes.specs.Access.{elements, find, text_of}
 use Rattle.fields.specs.Fields.{elements_in, listed_in}
 use Rattle.marks.proofs.Numbers.{number-cons}

@@ -4,8 +4,8 @@ use Rattle.std.proofs.Common.{arith, eqb-true}
 use mathlib.Core.List.{List, [], ◌∷◌}
 use Rattle.numerals.specs.Numerals.{pair_of}
 use Rattle.words.specs.Words.{object_words, code_of}
-use Rattle.json.specs.Tree.{Json}
-use Rattle.json.specs.Machine.{read, reads}
+use Rattle.json_text.specs.Tree.{Json}
+use Rattle.json_text.specs.Machine.{read, reads}
 use Rattle.nodes.specs.Access.{is_number_value, is_array_value, elements, members, Member, find}
 use Rattle.shapes.specs.Checks.{Check, at, for_each, each_element, values, object_kind, string_kind, number_kind, array_kind, is_some, needs}
 use Rattle.shapes.specs.Shapes.{is_integer_value, three_entries, pair_range, coordinate, vertex}

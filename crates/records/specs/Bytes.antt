@@ -1,7 +1,7 @@
 -- The bytes of the records of a value, of a part of a city model.
 use Rattle.std.specs.Prelude.{List, ◌++◌, ℕ}
 use Rattle.std.proofs.Math.Option.{Option}
-use Rattle.json.specs.Tree.{Json}
+use Rattle.json_text.specs.Tree.{Json}
 use Rattle.nodes.specs.Access.{Member, elements, name_of, text_of}
 use Rattle.fields.specs.Fields.{type_text}
 use Rattle.words.specs.Words.{object_words, code_of}

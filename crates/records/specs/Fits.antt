@@ -1,6 +1,6 @@
 -- What the writers ask of the values of a text; those of an accepted text are so (`Accepted`).
 use Rattle.std.specs.Prelude.{◌≡◌, true}
-use Rattle.json.specs.Tree.{Json}
+use Rattle.json_text.specs.Tree.{Json}
 use Rattle.nodes.specs.Access.{is_string_value}
 use Rattle.fields.specs.Fields.{objects_of}
 use Rattle.model.specs.Code.{All}

@@ -2,7 +2,7 @@
 use Rattle.std.specs.Prelude.{List, ◌++◌, ℕ}
 use Rattle.utf8.specs.Ascii.{ascii}
 use Rattle.utf8.specs.Bytes.{le}
-use Rattle.json.specs.Tree.{Json}
+use Rattle.json_text.specs.Tree.{Json}
 use Rattle.nodes.specs.Access.{Member, members, name_of, first_named}
 use Rattle.words.specs.Words.{object_words, code_of}
 use Rattle.fields.specs.Fields.{type_text}

@@ -1,7 +1,7 @@
 -- A sheet is the bytes of its parts, one after the other.
 use Rattle.std.specs.Prelude.{◌≡◌, refl, List, [], ◌∷◌, ◌++◌, map, ℕ}
 use Rattle.std.proofs.Common.{sym, ap, ◌∙◌, append_assoc, append-nil}
-use Rattle.json.specs.Tree.{Json}
+use Rattle.json_text.specs.Tree.{Json}
 use Rattle.nodes.specs.Access.{Member, elements, members, name_of, text_of, find}
 use Rattle.fields.specs.Fields.{objects_of}
 use Rattle.words.specs.Words.{object_words, code_of}

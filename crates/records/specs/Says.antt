@@ -1,7 +1,7 @@
 -- What the writers of records ask and tell.
 use Rattle.std.specs.Prelude.{◌≡◌, List, ◌++◌, ℕ, ◌+◌, ◌<◌, length, get_or}
-use Rattle.json.specs.Tree.{Json}
-use Rattle.json.specs.Table.{Sub}
+use Rattle.json_text.specs.Tree.{Json}
+use Rattle.json_text.specs.Table.{Sub}
 use Rattle.nodes.specs.Access.{Member}
 use Rattle.fields.specs.Fields.{objects_of}
 use Rattle.fields.specs.Says.{MemberAt}

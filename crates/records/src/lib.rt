@@ -1,6 +1,8 @@
 // Writes the records of an accepted text's sheet from its node table.
 // If they do not fit, a part of them may be written, and the cursor is then past the sheet.
 // Each function takes the cursor at which it is to write and gives the one after.
+#![tactic(auto)]
+
 ghost use Rattle.std.specs.Prelude.{◌+◌, []};
 ghost use Rattle.nodes.specs.Access.{name_of};
 ghost use Rattle.nodes.specs.Says.{Node, Gives};

@@ -6,8 +6,8 @@ use mathlib.Core.List.{List, ◌∷◌}
 use lib.ListN.{length, get_or}
 use borrow.Author.Rules.{rules}
 use borrow.Author.Tests.{eq-eqb, ne_eqb, lt-ltb, le-ltb}
-use Rattle.json.specs.Tree.{Json}
-use Rattle.json.specs.Table.{Sub}
+use Rattle.json_text.specs.Tree.{Json}
+use Rattle.json_text.specs.Table.{Sub}
 use Rattle.nodes.specs.Faults.{rule_of, place_in}
 use Rattle.everywhere.specs.Parts.{Part, part_place, part_end, parts}
 use Rattle.everywhere.proofs.Any.{part-words}

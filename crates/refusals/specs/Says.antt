@@ -1,7 +1,7 @@
 -- What the functions that refuse a fault ask and tell.
 use Rattle.std.specs.Prelude.{ℕ, ◌≡◌, List}
-use Rattle.json.specs.Tree.{Json}
-use Rattle.json.specs.Table.{Sub}
+use Rattle.json_text.specs.Tree.{Json}
+use Rattle.json_text.specs.Table.{Sub}
 use Rattle.nodes.specs.Faults.{rule_of, place_in}
 use Rattle.nodes.specs.Says.{Root}
 use Rattle.everywhere.specs.Parts.{parts}

@@ -1,4 +1,6 @@
 // Refusals: the rules of docs/RULES.md with their numbers, and the refusal of a fault, with its end.
+#![tactic(auto)]
+
 ghost use Rattle.std.specs.Prelude.{◌*◌, ◌≤◌, ◌<◌, ◌≡◌};
 ghost use Rattle.nodes.specs.Faults.{no_fault};
 ghost use Rattle.refusals.specs.Refusals.{rule_number};

@@ -7,8 +7,8 @@ use lib.ListN.{length, replicate}
 use mir.Syntax.{w64}
 use mir.Val.{Fits}
 use borrow.Author.Rules.{rules}
-use Rattle.json.specs.Tree.{Json, Items, ◌▸◌, Members, member}
-use Rattle.json.specs.Tree as tree
+use Rattle.json_text.specs.Tree.{Json, Items, ◌▸◌, Members, member}
+use Rattle.json_text.specs.Tree as tree
 use Rattle.nodes.specs.Faults.{fault, least}
 use Rattle.nodes.specs.Says.{Root, Gives}
 use Rattle.nodes.specs.Laws.{least-le, fields_of, fresh-length}

@@ -14,10 +14,10 @@ use Rattle.utf8.specs.Utf8.{same}
 use Rattle.strings.specs.Strings.{decode}
 use Rattle.strings.specs.Spans.{decode_at, begin_apart}
 use Rattle.strings.specs.Laws.{apart-differ}
-use Rattle.json.specs.Tree.{Json, Members, member, with, Name}
-use Rattle.json.specs.Tree as tree
-use Rattle.json.specs.Table.{widths, Quoted, Sub, Fields, last, field}
-use Rattle.json.specs.Laws.{Tree, widths-with, fields-with, MembersLeft, MemberPast, member-past, member-over, members-ended}
+use Rattle.json_text.specs.Tree.{Json, Members, member, with, Name}
+use Rattle.json_text.specs.Tree as tree
+use Rattle.json_text.specs.Table.{widths, Quoted, Sub, Fields, last, field}
+use Rattle.json_text.specs.Laws.{Tree, widths-with, fields-with, MembersLeft, MemberPast, member-past, member-over, members-ended}
 use Rattle.nodes.specs.Access.{is_object_value}
 use Rattle.nodes.specs.Faults.{fault, least}
 use Rattle.everywhere.specs.Everywhere.{among, repeated}

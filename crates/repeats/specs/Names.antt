@@ -1,9 +1,9 @@
 -- What the functions ask and tell that compare a name with those before it.
 use Rattle.std.specs.Prelude.{◌≡◌, Bool, cond, List, [], ◌∷◌, map, ℕ, ◌+◌, ◌≤◌, length, get_or}
 use Rattle.strings.specs.Strings.{decode}
-use Rattle.json.specs.Tree.{Members, member}
-use Rattle.json.specs.Tree as tree
-use Rattle.json.specs.Table.{widths, Fields}
+use Rattle.json_text.specs.Tree.{Members, member}
+use Rattle.json_text.specs.Tree as tree
+use Rattle.json_text.specs.Table.{widths, Fields}
 use Rattle.nodes.specs.Faults.{fault, least}
 use Rattle.nodes.specs.Says.{Gives}
 use Rattle.nodes.specs.Laws.{StringAt, fields_of}

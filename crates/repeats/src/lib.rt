@@ -1,5 +1,7 @@
 // Rule 6, which holds in every object of a text, over the nodes of its table.
 // Each function that looks for faults takes the least so far and gives the least.
+#![tactic(auto)]
+
 ghost use Rattle.std.specs.Prelude.{◌*◌, ◌/◌, ◌≤◌, ◌<◌, map, ◌≡◌, length, get_or};
 ghost use Rattle.utf8.specs.Utf8.{same};
 ghost use Rattle.trie.specs.Trie.{Walks};

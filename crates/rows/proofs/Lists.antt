@@ -11,8 +11,8 @@ use lib.Seq.{take-suc-set, append_snoc}
 use borrow.Author.Tests.{not-true, not-false}
 use mir.Syntax.{w16, w64}
 use mir.Val.{Fits}
-use Rattle.json.specs.Tree.{Json}
-use Rattle.json.specs.Table.{Sub}
+use Rattle.json_text.specs.Tree.{Json}
+use Rattle.json_text.specs.Table.{Sub}
 use Rattle.nodes.specs.Access.{is_string_value, is_array_value, elements, Member}
 use Rattle.nodes.specs.Laws.{no-elements}
 use Rattle.nodes.specs.Says.{Node, Finds, Gives}

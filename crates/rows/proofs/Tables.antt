@@ -13,7 +13,7 @@ use borrow.Author.Tests.{eqb-true, eqb-false}
 use mir.Syntax.{w16, w64}
 use mir.Val.{Fits}
 use Rattle.utf8.specs.Ascii.{ascii}
-use Rattle.json.specs.Tree.{Json}
+use Rattle.json_text.specs.Tree.{Json}
 use Rattle.nodes.specs.Access.{Member, members, find, first_named}
 use Rattle.nodes.specs.Says.{Node, Seeks}
 use Rattle.nodes.specs.declared.Found.{Found}

@@ -2,8 +2,8 @@
 use Rattle.std.specs.Prelude.{ℕ, ◌≡◌, refl, List, [], ◌∷◌, map}
 use Prim.Native.String.{String}
 use Rattle.utf8.specs.Ascii.{ascii, is_digit}
-use Rattle.json.specs.Tree.{◌◂◌, with}
-use Rattle.json.specs.Machine.{Outcome, reads, bad, too_deep, read, step, want_step, got_step, next_step, name_step, mant_step, nought_step, is_blank, is_hex, is_escape}
+use Rattle.json_text.specs.Tree.{◌◂◌, with}
+use Rattle.json_text.specs.Machine.{Outcome, reads, bad, too_deep, read, step, want_step, got_step, next_step, name_step, mant_step, nought_step, is_blank, is_hex, is_escape}
 use Rattle.nodes.specs.Access.{Member}
 use Rattle.fields.specs.Fields.{objects_of}
 use Rattle.ids.specs.Says.{names_of}

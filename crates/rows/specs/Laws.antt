@@ -2,7 +2,7 @@
 use Rattle.std.specs.Prelude.{ℕ, suc, ◌≤◌, Bool, true, false, cond, List, [], ◌∷◌, length}
 use Rattle.std.proofs.Common.{arith}
 use Rattle.utf8.specs.Utf8.{same}
-use Rattle.json.specs.Tree.{Json}
+use Rattle.json_text.specs.Tree.{Json}
 use Rattle.nodes.specs.Access.{is_string_value, text_of}
 use Rattle.model.specs.Model.{object_number}
 use Rattle.rows.specs.Rows.{link_number}

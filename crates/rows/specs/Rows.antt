@@ -1,7 +1,7 @@
 -- The numbers of the objects that city objects list.
 use Rattle.std.specs.Prelude.{ℕ, ◌+◌, cond, List, [], ◌∷◌, map, length}
 use Prim.Native.String.{String}
-use Rattle.json.specs.Tree.{Json}
+use Rattle.json_text.specs.Tree.{Json}
 use Rattle.nodes.specs.Access.{is_string_value, Member, text_of}
 use Rattle.fields.specs.Fields.{listed_in}
 use Rattle.model.specs.Model.{object_number}

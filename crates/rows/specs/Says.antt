@@ -3,8 +3,8 @@ use Rattle.std.specs.Prelude.{ℕ, ◌+◌, ◌<◌, ◌≤◌, ◌≡◌, List,
 use Prim.Native.String.{String}
 use Rattle.std.proofs.Math.Option.{Option}
 use Rattle.utf8.specs.Ascii.{ascii}
-use Rattle.json.specs.Tree.{Json}
-use Rattle.json.specs.Table.{Sub}
+use Rattle.json_text.specs.Tree.{Json}
+use Rattle.json_text.specs.Table.{Sub}
 use Rattle.nodes.specs.Access.{Member}
 use Rattle.nodes.specs.Says.{Finds, Sought}
 use Rattle.nodes.specs.declared.Found.{Found}

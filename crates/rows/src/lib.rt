@@ -1,5 +1,7 @@
 // The numbers of the objects that each city object lists, looked up once, in a flat table of rows:
 // word k of a table says where the row of the object of number k begins, word k + 1 where it ends.
+#![tactic(auto)]
+
 ghost use Rattle.nodes.specs.Says.{Node};
 ghost use Rattle.nodes.specs.declared.Found.TheVariants.{At};
 ghost use Rattle.ids.specs.Says.{Objects};

@@ -1,8 +1,8 @@
 -- Rules 15 to 17 of docs/RULES.md decided by computation: the least fault of the links in the tree of a small text.
 use Rattle.std.specs.Prelude.{ℕ, ◌≡◌, refl, List}
 use Rattle.utf8.specs.Ascii.{ascii, is_digit}
-use Rattle.json.specs.Tree.{◌◂◌, with}
-use Rattle.json.specs.Machine.{Outcome, reads, bad, too_deep, read, step, want_step, got_step, next_step, name_step, mant_step, nought_step, is_blank, is_hex, is_escape}
+use Rattle.json_text.specs.Tree.{◌◂◌, with}
+use Rattle.json_text.specs.Machine.{Outcome, reads, bad, too_deep, read, step, want_step, got_step, next_step, name_step, mant_step, nought_step, is_blank, is_hex, is_escape}
 use Rattle.nodes.specs.Faults.{fault, least, no_fault}
 use Rattle.rules.specs.Links.{link_faults}
 

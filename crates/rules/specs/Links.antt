@@ -4,7 +4,7 @@ use Prim.Native.String.{String}
 use Rattle.std.proofs.Math.Option.{Option, some}
 use Rattle.std.proofs.Math.Option as option
 use Rattle.words.specs.Words.{object_words, code_of, is, is_second_level}
-use Rattle.json.specs.Tree.{Json}
+use Rattle.json_text.specs.Tree.{Json}
 use Rattle.nodes.specs.Access.{is_string_value, Member, name_of, text_of, first_named}
 use Rattle.everywhere.specs.Everywhere.{among}
 use Rattle.shapes.specs.Checks.{unless, is_some, is_empty}

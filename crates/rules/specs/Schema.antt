@@ -6,7 +6,7 @@ use Rattle.std.proofs.Math.Option as option
 use Rattle.utf8.specs.Ascii.{ascii}
 use Rattle.utf8.specs.Utf8.{same}
 use Rattle.words.specs.Words.{object_words, geometry_words, surface_words, code_of, is_one, is, is_added, is_added_name, is_lod, depth, values_depth, is_permitted}
-use Rattle.json.specs.Tree.{Json}
+use Rattle.json_text.specs.Tree.{Json}
 use Rattle.nodes.specs.Access.{members, Member, find}
 use Rattle.nodes.specs.Faults.{fault}
 use Rattle.fields.specs.Fields.{type_text, count_in}

@@ -1,1 +1,2 @@
 // Rules 7 to 17 of docs/RULES.md: definitions and examples. There is no code here.
+#![tactic(auto)]

@@ -10,18 +10,18 @@ use lib.ListN.{length, get_or}
 use lib.Seq.{slice}
 use borrow.Author.Tests.{ne_eqb}
 use Rattle.utf8.specs.Ascii.{ascii, is_digit}
-use Rattle.json.specs.Tree.{Json}
-use Rattle.json.specs.Tree as tree
-use Rattle.json.specs.Machine.{Frame, Mode, value, step, go, is_blank}
-use Rattle.json.specs.Machine.Mode.{want, neg, nought, int, mant, chars}
-use Rattle.json.specs.Table.{size, Words, Quoted, is_numeric, Sub, null, bool, num, str}
-use Rattle.json.specs.Says.{Reads, Skips, digital, numbered, chars_of, closed_of, ReadsString, WordAt, literal_of, ReadsWord, Placed, Scalar, Digits}
-use Rattle.json.specs.declared.Scan.{Scan}
-use Rattle.json.specs.declared.Scan.TheVariants.{End, Bad}
-use Rattle.json.specs.Steps.{nought-else, want-quote, want-minus, want-0, want-digit, want-t, want-f, want-n, want-no}
-use Rattle.json.specs.Laws.{over-blank, is-digit, under-digit, over-digit}
-use Rattle.json.proofs.Moves.{moves, dies}
-use Rattle.json.proofs.Parts.{looks, int-digits, mant-done}
+use Rattle.json_text.specs.Tree.{Json}
+use Rattle.json_text.specs.Tree as tree
+use Rattle.json_text.specs.Machine.{Frame, Mode, value, step, go, is_blank}
+use Rattle.json_text.specs.Machine.Mode.{want, neg, nought, int, mant, chars}
+use Rattle.json_text.specs.Table.{size, Words, Quoted, is_numeric, Sub, null, bool, num, str}
+use Rattle.json_text.specs.Says.{Reads, Skips, digital, numbered, chars_of, closed_of, ReadsString, WordAt, literal_of, ReadsWord, Placed, Scalar, Digits}
+use Rattle.json_text.specs.declared.Scan.{Scan}
+use Rattle.json_text.specs.declared.Scan.TheVariants.{End, Bad}
+use Rattle.json_text.specs.Steps.{nought-else, want-quote, want-minus, want-0, want-digit, want-t, want-f, want-n, want-no}
+use Rattle.json_text.specs.Laws.{over-blank, is-digit, under-digit, over-digit}
+use Rattle.json_text.proofs.Moves.{moves, dies}
+use Rattle.json_text.proofs.Parts.{looks, int-digits, mant-done}
 
 pub words_of : {x t : List ℕ} {i p e b n : ℕ} → Placed t i p e n → p < e → e ≤ length x → get_or x p 0 ≡ b → Words x t i p e b n
 words_of w l h q = record { room = w.room; start = w.start; end = w.end; next = w.next; some = l; inside = h; byte = q }

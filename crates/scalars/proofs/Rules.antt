@@ -6,15 +6,15 @@ use mathlib.Core.Bool.{true}
 use lib.ListN.{length, get_or}
 use borrow.Author.Rules.{rules}
 use Rattle.utf8.specs.Ascii.{is_digit}
-use Rattle.json.specs.Machine.Mode.{nought, dot, mant}
-use Rattle.json.specs.Says.{Stays, Reads, digital, to, numbered}
-use Rattle.json.specs.declared.Scan.{Scan}
-use Rattle.json.specs.declared.Scan.TheVariants.{End}
-use Rattle.json.specs.Steps.{dot-yes, dot-no, sign-yes, sign-no, exp-plus, exp-minus, exp-else, mant-e, mant-E, nought-dot, nought-else, neg-0, neg-digit, neg-no}
-use Rattle.json.proofs.Moves.{stays-none, stays-more, digit-stays}
-use Rattle.json.proofs.Parts.{NoEnd, ends-bad, stops, passes, looks, joins, breaks, end-high, frac-digits, exps-digits, int-digits, mant-out, nought-out, mant-done, word-start, word-short, word-wrong, word_more, word-done}
+use Rattle.json_text.specs.Machine.Mode.{nought, dot, mant}
+use Rattle.json_text.specs.Says.{Stays, Reads, digital, to, numbered}
+use Rattle.json_text.specs.declared.Scan.{Scan}
+use Rattle.json_text.specs.declared.Scan.TheVariants.{End}
+use Rattle.json_text.specs.Steps.{dot-yes, dot-no, sign-yes, sign-no, exp-plus, exp-minus, exp-else, mant-e, mant-E, nought-dot, nought-else, neg-0, neg-digit, neg-no}
+use Rattle.json_text.proofs.Moves.{stays-none, stays-more, digit-stays}
+use Rattle.json_text.proofs.Parts.{NoEnd, ends-bad, stops, passes, looks, joins, breaks, end-high, frac-digits, exps-digits, int-digits, mant-out, nought-out, mant-done, word-start, word-short, word-wrong, word_more, word-done}
 use Rattle.scalars.proofs.Leaves.{scalar-string, scalar-minus, scalar-0, scalar-digit, scalar-true, scalar-false, scalar-null, scalar-low, scalar-high, digits-no, digits-yes}
-use Rattle.json.proofs.Rules.{flags, stays-stop, stays_out}
+use Rattle.json_text.proofs.Rules.{flags, stays-stop, stays_out}
 
 -- a loop over digits
 pub digits-none : (text : List ℕ) (at : ℕ) → at ≤ length text → Stays digital text at at

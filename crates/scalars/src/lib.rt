@@ -1,10 +1,12 @@
 // The scalars of JSON texts (RFC 8259) that are no strings, numerals and words, and any scalar.
+#![tactic(auto)]
+
 ghost use Rattle.std.specs.Prelude.{◌+◌, ◌≤◌, ◌≡◌, length};
 ghost use Rattle.utf8.specs.Ascii.{is_digit};
-ghost use Rattle.json.specs.Machine.Mode.{neg, nought, int, dot, mant, exp, sign};
-ghost use Rattle.json.specs.Says.{digital, Skips, Reads, to, numbered, ReadsWord, Plain, Scalar, Digits};
+ghost use Rattle.json_text.specs.Machine.Mode.{neg, nought, int, dot, mant, exp, sign};
+ghost use Rattle.json_text.specs.Says.{digital, Skips, Reads, to, numbered, ReadsWord, Plain, Scalar, Digits};
 
-use json::Scan;
+use json_text::Scan;
 
 // Is the byte a digit?
 fn is_digit(b: u8) -> bool
@@ -146,7 +148,7 @@ pub fn scalar(text: &[u8], at: usize) -> Scan
     ensures { Scalar text.now at result }
 {
     match text[at] {
-        b'"' => json::string(text, at + 1),
+        b'"' => json_text::string(text, at + 1),
         b'-' => negative(text, at + 1),
         b'0' => maybe_fraction(text, at + 1),
         b't' => word(text, at + 1, b"rue"),

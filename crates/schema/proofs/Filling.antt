@@ -10,9 +10,9 @@ use borrow.Author.Tests.{not-true, not-false}
 use mathlib.Core.List.{List, [], ◌∷◌, ◌++◌, append_assoc, append-nil}
 use lib.ListN.{length, get_or, set, drop, replicate, length-append, length-set, get_or-append, drop_of_length-le}
 use lib.Seq.{drop_at, get_or-set_same, get_or-set_other, get_or-append_seam}
-use Rattle.json.specs.Tree.{Json}
-use Rattle.json.specs.Table.{Sub}
-use Rattle.json.specs.Laws.{MembersLeft, MemberPast, member-past, member-over, members-ended}
+use Rattle.json_text.specs.Tree.{Json}
+use Rattle.json_text.specs.Table.{Sub}
+use Rattle.json_text.specs.Laws.{MembersLeft, MemberPast, member-past, member-over, members-ended}
 use Rattle.utf8.specs.Ascii.{ascii}
 use Rattle.nodes.specs.Access.{is_object_value, Member, pairs, members, first_named, find}
 use Rattle.nodes.specs.Says.{Node, Gives, Finds, Seeks}

@@ -11,8 +11,8 @@ use Rattle.utf8.specs.Utf8.{same}
 use Rattle.utf8.specs.Laws.{clash, both_left, both_right, same-equal}
 use Rattle.words.specs.Words.{object_words, code_of, is_one, is_added}
 use Rattle.words.specs.Laws.{one-has-code}
-use Rattle.json.specs.Tree.{Json}
-use Rattle.json.specs.Table.{Sub}
+use Rattle.json_text.specs.Tree.{Json}
+use Rattle.json_text.specs.Table.{Sub}
 use Rattle.nodes.specs.Access.{is_string_value, text_of}
 use Rattle.nodes.specs.Faults.{least}
 use Rattle.nodes.specs.Says.{Gives}

@@ -1,6 +1,8 @@
 // Rules 7 to 14 over the node table of a text, and the index of its city objects. Each function takes the least fault so far and gives the least.
 // A member has a function of its name, which looks it up and asks rule 8 if it is needed, or is handed what was found where others use it too;
 // one whose name ends in `_at` checks the value at its node. An object's function is a line of such calls.
+#![tactic(auto)]
+
 ghost use Rattle.std.specs.Prelude.{◌<◌, [], ◌∷◌, length};
 ghost use Rattle.utf8.specs.Ascii.{ascii};
 ghost use Rattle.words.specs.Words.{object_words, is_added};

@@ -17,9 +17,9 @@ use Rattle.numerals.specs.Numerals.{Decimal, is_integer, integer, pair_of, fits3
 use Rattle.numerals.specs.Reading.{pair_in}
 use Rattle.numerals.specs.declared.Numeral.{Numeral}
 use Rattle.numerals.specs.declared.Numeral.TheVariants.{Pair, Out}
-use Rattle.json.specs.Tree.{Json}
-use Rattle.json.specs.Table.{Sub}
-use Rattle.json.specs.Laws.{Left, Past, past, over, ended}
+use Rattle.json_text.specs.Tree.{Json}
+use Rattle.json_text.specs.Table.{Sub}
+use Rattle.json_text.specs.Laws.{Left, Past, past, over, ended}
 use Rattle.nodes.specs.Access.{is_number_value, is_array_value, listed, elements, numeral_of}
 use Rattle.nodes.specs.Faults.{fault, least}
 use Rattle.nodes.specs.Says.{Node, Gives}

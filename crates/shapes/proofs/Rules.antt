@@ -5,7 +5,7 @@ use mathlib.Core.Bool.{Bool, not, ◌||◌}
 use mathlib.Core.List.{List}
 use mathlib.Core.Option.{Option}
 use mathlib.Core.Option as option
-use Rattle.json.specs.Tree.{Json}
+use Rattle.json_text.specs.Tree.{Json}
 use Rattle.nodes.specs.Access.{is_object_value}
 use Rattle.nodes.specs.Faults.{least}
 use Rattle.nodes.specs.Says.{Gives, Finds}

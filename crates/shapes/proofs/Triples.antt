@@ -12,10 +12,10 @@ use borrow.Author.Tests.{not-false}
 use Rattle.utf8.specs.Laws.{never}
 use Rattle.numerals.specs.Numerals.{is_integer, integer, fits32}
 use Rattle.numerals.specs.Reading.{Short}
-use Rattle.json.specs.Tree.{Json}
-use Rattle.json.specs.Tree as tree
-use Rattle.json.specs.Table.{Sub, size}
-use Rattle.json.specs.Laws.{words, Left, past, over, ended}
+use Rattle.json_text.specs.Tree.{Json}
+use Rattle.json_text.specs.Tree as tree
+use Rattle.json_text.specs.Table.{Sub, size}
+use Rattle.json_text.specs.Laws.{words, Left, past, over, ended}
 use Rattle.nodes.specs.Access.{is_number_value, is_array_value, listed, elements, numeral_of}
 use Rattle.nodes.specs.Says.{Node, Gives}
 use Rattle.nodes.specs.Laws.{numeral-at, elements-begin}

@@ -3,7 +3,7 @@ use Rattle.std.specs.Prelude.{ℕ, Bool, true, false, cond, not, ◌||◌, List,
 use Prim.Native.String.{String}
 use Rattle.std.proofs.Math.Option.{Option, some}
 use Rattle.std.proofs.Math.Option as option
-use Rattle.json.specs.Tree.{Json, place_of}
+use Rattle.json_text.specs.Tree.{Json, place_of}
 use Rattle.nodes.specs.Access.{is_number_value, is_string_value, is_array_value, is_object_value, elements, members, Member, text_of, numeral_of, find}
 use Rattle.nodes.specs.Faults.{fault}
 

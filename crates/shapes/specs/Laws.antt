@@ -11,9 +11,9 @@ use borrow.Author.Tests.{not-true, not-false}
 use Rattle.utf8.specs.Ascii.{ascii}
 use Rattle.utf8.specs.Laws.{both_left}
 use Rattle.strings.specs.Spans.{decode_at}
-use Rattle.json.specs.Tree.{Json}
-use Rattle.json.specs.Table.{Sub}
-use Rattle.json.specs.Laws.{words, Left, Past, past, over, ended, MembersLeft, MemberPast, member-past, member-over, members-ended}
+use Rattle.json_text.specs.Tree.{Json}
+use Rattle.json_text.specs.Table.{Sub}
+use Rattle.json_text.specs.Laws.{words, Left, Past, past, over, ended, MembersLeft, MemberPast, member-past, member-over, members-ended}
 use Rattle.nodes.specs.Access.{is_number_value, is_string_value, is_array_value, is_object_value, listed, elements, pairs, members, first_named, find, text_of, numeral_of}
 use Rattle.nodes.specs.Faults.{fault, least}
 use Rattle.nodes.specs.Says.{Node, Gives, Seeks}

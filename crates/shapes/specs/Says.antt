@@ -2,8 +2,8 @@
 use Rattle.std.specs.Prelude.{◌≡◌, Bool, true, not, ◌||◌, List, [], ◌⊎◌, ℕ}
 use Rattle.std.proofs.Math.Option.{Option}
 use Rattle.std.proofs.Common.{inl, inr}
-use Rattle.json.specs.Tree.{Json}
-use Rattle.json.specs.Table.{Sub}
+use Rattle.json_text.specs.Tree.{Json}
+use Rattle.json_text.specs.Table.{Sub}
 use Rattle.nodes.specs.Access.{is_object_value}
 use Rattle.nodes.specs.Faults.{least}
 use Rattle.nodes.specs.Says.{Finds}

@@ -4,7 +4,7 @@ use Rattle.std.proofs.Math.Option.{Option, some}
 use Rattle.std.proofs.Math.Option as option
 use Rattle.std.proofs.Common.{inl, inr}
 use Rattle.numerals.specs.Numerals.{Decimal, is_integer, integer, pair_of, fits32, is_below}
-use Rattle.json.specs.Tree.{Json, place_of}
+use Rattle.json_text.specs.Tree.{Json, place_of}
 use Rattle.nodes.specs.Access.{is_null_value, is_number_value, is_array_value, elements, numeral_of}
 use Rattle.nodes.specs.Faults.{fault}
 use Rattle.shapes.specs.Checks.{Check, unless, is_some, for_each, each_element, numeral}

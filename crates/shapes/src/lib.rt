@@ -1,5 +1,7 @@
 // Checks of a value of the node table: its kind (rule 7), a member that it needs (rule 8), and the shape and the range of transforms and vertices
 // (rules 12 and 13). Each takes the least fault so far and gives the least.
+#![tactic(auto)]
+
 ghost use Rattle.std.specs.Prelude.{◌<◌, true, ◌++◌};
 ghost use Rattle.nodes.specs.Access.{is_number_value, is_array_value, elements};
 ghost use Rattle.nodes.specs.Faults.{least};

@@ -9,8 +9,8 @@ use Rattle.std.proofs.lemmas.List.{length-replicate}
 use Rattle.std.proofs.lemmas.Bool.{lt-leb}
 use Rattle.utf8.specs.Utf8.{whole_length}
 use Rattle.utf8.specs.Laws.{clash}
-use Rattle.json.specs.Tree.{Json}
-use Rattle.json.specs.Machine.{Outcome, reads, bad, too_deep, read, tree_in, tree_of}
+use Rattle.json_text.specs.Tree.{Json}
+use Rattle.json_text.specs.Machine.{Outcome, reads, bad, too_deep, read, tree_in, tree_of}
 use Rattle.nodes.specs.Faults.{fault, rule_of, place_in, least, no_fault}
 use Rattle.everywhere.specs.Everywhere.{rule5, rule6}
 use Rattle.fields.specs.Fields.{objects_of}

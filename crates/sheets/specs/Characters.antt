@@ -14,9 +14,9 @@ use Rattle.utf8.specs.Splits.{whole-text, whole-between}
 use Rattle.strings.specs.Strings.{decode, unpaired_from}
 use Rattle.strings.specs.Characters.{whole-decode}
 use Rattle.words.specs.Words.{code_of, geometry_words}
-use Rattle.json.specs.Tree.{Json, Items, ◌▸◌, Members, Name}
-use Rattle.json.specs.Tree as tree
-use Rattle.json.specs.Grammar.{Text}
+use Rattle.json_text.specs.Tree.{Json, Items, ◌▸◌, Members, Name}
+use Rattle.json_text.specs.Tree as tree
+use Rattle.json_text.specs.Grammar.{Text}
 use Rattle.grammar.specs.Theorems.{read-text}
 use Rattle.nodes.specs.Access.{Member, listed, elements, pairs, members, name_of, text_of, first_named, find}
 use Rattle.nodes.specs.Faults.{fault}
@@ -30,7 +30,7 @@ use Rattle.model.specs.Lists.{one_of, all_map, all_both, all-parts, all_of_map}
 use Rattle.model.specs.Model.{Surface, added, Semantics, Object, Model}
 use Rattle.model.specs.Model as model
 use Rattle.model.specs.Read.{or_null, get, surface_named, surface_of, semantics_of, geometry_of, object_of, model_of}
-use Rattle.json.specs.Machine.{tree_of}
+use Rattle.json_text.specs.Machine.{tree_of}
 use Rattle.sheets.specs.Laid.{model_of_text}
 use Rattle.sheets.specs.Quoted.{InQuotes, chars-end, chars-escaped, text-quoted}
 use Rattle.sheets.specs.Answers.{tree_is}

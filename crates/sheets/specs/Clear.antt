@@ -6,7 +6,7 @@ use Rattle.std.proofs.Math.Option.{Option, some}
 use Rattle.std.proofs.Math.Option as option
 use Rattle.std.proofs.lemmas.List.{length-map}
 pub use Rattle.utf8.specs.Laws.{nil-left, nil-right}
-use Rattle.json.specs.Tree.{Json, null}
+use Rattle.json_text.specs.Tree.{Json, null}
 use Rattle.nodes.specs.Access.{is_number_value, is_string_value, is_object_value, elements, members, text_of, numeral_of, find}
 use Rattle.shapes.specs.Checks.{Check, unless, all, on, at, for_each, each_element, object_kind, string_kind, array_kind, is_some, needs, text, numeral}
 use Rattle.fields.specs.Fields.{text_in, elements_in, listed_in, type_text, count_in, members_in, objects_of}

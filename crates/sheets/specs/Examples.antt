@@ -1,8 +1,8 @@
 -- The sheets of two sample texts (docs/TRACE.md), and rooms that are cleared, by computation.
 use Rattle.std.specs.Prelude.{ℕ, ◌≡◌, refl, List, [], ◌∷◌, ◌++◌}
 use Rattle.utf8.specs.Ascii.{ascii, is_digit}
-use Rattle.json.specs.Tree.{◌◂◌, with}
-use Rattle.json.specs.Machine.{step, want_step, got_step, next_step, name_step, mant_step, nought_step, is_blank, is_hex, is_escape}
+use Rattle.json_text.specs.Tree.{◌◂◌, with}
+use Rattle.json_text.specs.Machine.{step, want_step, got_step, next_step, name_step, mant_step, nought_step, is_blank, is_hex, is_escape}
 use Rattle.numerals.specs.Numerals.{decimal, whole_of}
 use Rattle.words.specs.Words.{code_of, object_words, geometry_words, surface_words, depth, values_depth}
 use Rattle.nodes.specs.Access.{elements, members, name_of, text_of, find}

@@ -12,7 +12,7 @@ use Rattle.utf8.specs.Utf8.{same}
 use Rattle.utf8.specs.Laws.{both_left, both_right, never, same-equal, same_refl}
 use Rattle.words.specs.Words.{object_words, geometry_words, surface_words, code_of, is_one, is, is_added, is_lod, depth, values_depth, is_permitted}
 use Rattle.words.specs.Laws.{one-has-code, code-most}
-use Rattle.json.specs.Tree.{Json, null}
+use Rattle.json_text.specs.Tree.{Json, null}
 use Rattle.nodes.specs.Access.{is_string_value, elements, members, Member, name_of, text_of, find, first_named}
 use Rattle.everywhere.specs.Everywhere.{among, rule5, rule6}
 use Rattle.nodes.specs.Faults.{fault}

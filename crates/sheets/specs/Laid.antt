@@ -1,6 +1,6 @@
 -- What lay answers for a text and a lent sheet, and what the sheet then holds (docs/RULES.md, "The answer"; docs/SHEET.md).
 use Rattle.std.specs.Prelude.{ℕ, ◌-◌, cond, List, ◌++◌, length, replicate, leb}
-use Rattle.json.specs.Machine.{tree_of}
+use Rattle.json_text.specs.Machine.{tree_of}
 use Rattle.model.specs.Model.{Model, sheet_of}
 use Rattle.model.specs.Read.{model_of}
 use Rattle.verdict.specs.Verdict.{Verdict, verdict}

@@ -7,7 +7,7 @@ use Rattle.std.specs.Int.Signed.{mag}
 use Rattle.utf8.specs.Laws.{both_left, both_right, never}
 use Rattle.numerals.specs.Numerals.{Decimal, decimal, in_range, pair_of, is_integer, integer, fits32, is_below, whole_of}
 use Rattle.numerals.specs.Laws.{whole}
-use Rattle.json.specs.Tree.{Json, null, bool, num, str, arr, obj}
+use Rattle.json_text.specs.Tree.{Json, null, bool, num, str, arr, obj}
 use Rattle.nodes.specs.Access.{is_null_value, is_number_value, is_array_value, elements, numeral_of}
 use Rattle.shapes.specs.Checks.{unless, for_each, each_element, number_kind, array_kind, is_some}
 use Rattle.shapes.specs.Shapes.{is_integer_value, all_integers, three_entries, pair_range, is_triple, coordinate, vertex, shaped, ranged, for_both, matches}

@@ -11,10 +11,10 @@ use Rattle.strings.specs.Strings.{hex_value}
 use Rattle.strings.specs.Laws.{cross}
 use Rattle.strings.specs.Characters.{Digit, Escaped}
 use Rattle.strings.specs.Characters as escaped
-use Rattle.json.specs.Tree.{Json, Items, Members, Name}
-use Rattle.json.specs.Machine.{is_hex, is_escape}
-use Rattle.json.specs.Grammar.{At, Chars, Text}
-use Rattle.json.specs.Grammar as g
+use Rattle.json_text.specs.Tree.{Json, Items, Members, Name}
+use Rattle.json_text.specs.Machine.{is_hex, is_escape}
+use Rattle.json_text.specs.Grammar.{At, Chars, Text}
+use Rattle.json_text.specs.Grammar as g
 use Rattle.grammar.specs.Induction.{Below, by-levels}
 use Rattle.everywhere.specs.Everywhere.{strings, strings_in, strings_of}
 use Rattle.model.specs.Code.{All}

@@ -1,8 +1,8 @@
 -- A value takes at least as many bytes of its text as its size says, so the sheet of every accepted text is short.
 use Rattle.std.specs.Prelude.{ℕ, ◌+◌, ◌≤◌, ◌≡◌, List, length}
 use Rattle.std.proofs.Common.{arith}
-use Rattle.json.specs.Tree.{Json, Items, Members}
-use Rattle.json.specs.Machine.{read, reads}
+use Rattle.json_text.specs.Tree.{Json, Items, Members}
+use Rattle.json_text.specs.Machine.{read, reads}
 use Rattle.strings.specs.Laws.{decode-short}
 use Rattle.grammar.specs.Order.{Spans, Row, Rows}
 use Rattle.grammar.specs.Order as order

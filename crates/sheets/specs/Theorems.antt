@@ -6,8 +6,8 @@ use Rattle.std.proofs.lemmas.List.{length-map}
 use Rattle.utf8.specs.Utf8.{Whole}
 use Rattle.utf8.specs.Laws.{clash}
 use Rattle.strings.specs.Strings.{decode}
-use Rattle.json.specs.Tree.{Name}
-use Rattle.json.specs.Machine.{tree_of}
+use Rattle.json_text.specs.Tree.{Name}
+use Rattle.json_text.specs.Machine.{tree_of}
 use Rattle.nodes.specs.Access.{members}
 use Rattle.everywhere.specs.Everywhere.{strings}
 use Rattle.verdict.specs.Verdict.{Verdict, accepted, verdict}

@@ -1,4 +1,6 @@
 // Strings of JSON texts (RFC 8259, section 7). A string is given by the text and two offsets: `at`, just after its opening quote, and `end`, its closing quote.
+#![tactic(auto)]
+
 ghost use Rattle.std.specs.Prelude.{◌+◌, ◌-◌, ◌%◌, ◌≤◌, ◌<◌, ◌≡◌, length, drop, get_or};
 ghost use Rattle.std.proofs.Math.Seq.{slice};
 ghost use Rattle.utf8.specs.Utf8.{encode};

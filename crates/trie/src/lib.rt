@@ -2,6 +2,8 @@
 // A slot holds an entry, or 0: the first slot the root of the tree of its children, the others those to its left and right in the tree that it is in.
 // Entry 0 is that of the empty text. The array has at most 327,680 words, 65,536 entries.
 // A `Place` is an entry and the count of the entries; its count is 0 if the way was given up.
+#![tactic(auto)]
+
 ghost use Rattle.std.specs.Prelude.{◌+◌, ◌*◌, ◌%◌, ◌≤◌, ◌<◌, ◌≡◌, [], ◌∷◌, length};
 ghost use Rattle.strings.specs.Spans.{Span, decode_at, ahead};
 ghost use Rattle.trie.specs.Trie.{value_of, Sought, Grown, Walks, Emptied, Puts};

@@ -1,5 +1,7 @@
 // What a string that names a type or a level of detail looks like, and what a type's code tells: which geometries an object may have, and how deep a
 // geometry is.
+#![tactic(auto)]
+
 ghost use Rattle.std.specs.Prelude.{◌<◌, ◌≡◌, true, length};
 ghost use Rattle.utf8.specs.Ascii.{is_digit};
 ghost use Rattle.strings.specs.Spans.{Span, decode_at};

@@ -7,7 +7,7 @@ infix 80 ◌to◌
 pub data Range : Type 0 where
   ◌to◌ : ℕ → ℕ → Range
 
--- utf8_tail = %x80-BF
+-- UTF8-tail = %x80-BF
 abbrev pub utf8_tail : Range
 utf8_tail = 0x80 to 0xBF
 
@@ -16,21 +16,21 @@ unfoldable pub rows : List (List Range)
 rows =
     -- UTF8-1 = %x00-7F
     (0x00 to 0x7F ∷ []) ∷
-    -- UTF8-2 = %xC2-DF utf8_tail
+    -- UTF8-2 = %xC2-DF UTF8-tail
     (0xC2 to 0xDF ∷ utf8_tail ∷ []) ∷
-    -- UTF8-3 = %xE0 %xA0-BF utf8_tail /
+    -- UTF8-3 = %xE0 %xA0-BF UTF8-tail /
     (0xE0 to 0xE0 ∷ 0xA0 to 0xBF ∷ utf8_tail ∷ []) ∷
-    --          %xE1-EC 2( utf8_tail ) /
+    --          %xE1-EC 2( UTF8-tail ) /
     (0xE1 to 0xEC ∷ utf8_tail ∷ utf8_tail ∷ []) ∷
-    --          %xED %x80-9F utf8_tail /
+    --          %xED %x80-9F UTF8-tail /
     (0xED to 0xED ∷ 0x80 to 0x9F ∷ utf8_tail ∷ []) ∷
-    --          %xEE-EF 2( utf8_tail )
+    --          %xEE-EF 2( UTF8-tail )
     (0xEE to 0xEF ∷ utf8_tail ∷ utf8_tail ∷ []) ∷
-    -- UTF8-4 = %xF0 %x90-BF 2( utf8_tail ) /
+    -- UTF8-4 = %xF0 %x90-BF 2( UTF8-tail ) /
     (0xF0 to 0xF0 ∷ 0x90 to 0xBF ∷ utf8_tail ∷ utf8_tail ∷ []) ∷
-    --          %xF1-F3 3( utf8_tail ) /
+    --          %xF1-F3 3( UTF8-tail ) /
     (0xF1 to 0xF3 ∷ utf8_tail ∷ utf8_tail ∷ utf8_tail ∷ []) ∷
-    --          %xF4 %x80-8F 2( utf8_tail )
+    --          %xF4 %x80-8F 2( UTF8-tail )
     (0xF4 to 0xF4 ∷ 0x80 to 0x8F ∷ utf8_tail ∷ utf8_tail ∷ []) ∷
     []
 

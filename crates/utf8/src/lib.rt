@@ -1,4 +1,6 @@
 // Whole characters of UTF-8 (RFC 3629): how many bytes of a text they make up.
+#![tactic(auto)]
+
 ghost use Rattle.std.specs.Prelude.{◌+◌, ◌≤◌, ◌<◌, true, cond, [], ◌∷◌, ◌≡◌, length, drop};
 ghost use Rattle.utf8.specs.Utf8.{size, whole_length};
 ghost use Rattle.utf8.specs.Rows.{utf8_tail, matches};
@@ -16,21 +18,21 @@ fn has(text: &[u8], at: usize, low: u8, high: u8) -> bool
     low <= b && b <= high
 }
 
-// utf8_tail = %x80-BF
+// UTF8-tail = %x80-BF
 fn tail(text: &[u8], at: usize) -> bool
     ensures { result ≡ matches (utf8_tail ∷ []) (drop at text.now) }
 {
     has(text, at, 0x80, 0xBF)
 }
 
-// 2( utf8_tail )
+// 2( UTF8-tail )
 fn two_tails(text: &[u8], at: usize) -> bool
     ensures { result ≡ matches (utf8_tail ∷ utf8_tail ∷ []) (drop at text.now) }
 {
     tail(text, at) && tail(text, at + 1)
 }
 
-// 3( utf8_tail )
+// 3( UTF8-tail )
 fn three_tails(text: &[u8], at: usize) -> bool
     ensures { result ≡ matches (utf8_tail ∷ utf8_tail ∷ utf8_tail ∷ []) (drop at text.now) }
 {
@@ -55,21 +57,21 @@ fn character(text: &[u8], at: usize) -> usize
     match text[at] {
         // UTF8-1 = %x00-7F
         0x00..=0x7F => 1,
-        // UTF8-2 = %xC2-DF utf8_tail
+        // UTF8-2 = %xC2-DF UTF8-tail
         0xC2..=0xDF => counted(2, tail(text, at + 1)),
-        // UTF8-3 = %xE0 %xA0-BF utf8_tail /
+        // UTF8-3 = %xE0 %xA0-BF UTF8-tail /
         0xE0 => counted(3, has(text, at + 1, 0xA0, 0xBF) && tail(text, at + 2)),
-        //          %xE1-EC 2( utf8_tail ) /
+        //          %xE1-EC 2( UTF8-tail ) /
         0xE1..=0xEC => counted(3, two_tails(text, at + 1)),
-        //          %xED %x80-9F utf8_tail /
+        //          %xED %x80-9F UTF8-tail /
         0xED => counted(3, has(text, at + 1, 0x80, 0x9F) && tail(text, at + 2)),
-        //          %xEE-EF 2( utf8_tail )
+        //          %xEE-EF 2( UTF8-tail )
         0xEE..=0xEF => counted(3, two_tails(text, at + 1)),
-        // UTF8-4 = %xF0 %x90-BF 2( utf8_tail ) /
+        // UTF8-4 = %xF0 %x90-BF 2( UTF8-tail ) /
         0xF0 => counted(4, has(text, at + 1, 0x90, 0xBF) && two_tails(text, at + 2)),
-        //          %xF1-F3 3( utf8_tail ) /
+        //          %xF1-F3 3( UTF8-tail ) /
         0xF1..=0xF3 => counted(4, three_tails(text, at + 1)),
-        //          %xF4 %x80-8F 2( utf8_tail )
+        //          %xF4 %x80-8F 2( UTF8-tail )
         0xF4 => counted(4, has(text, at + 1, 0x80, 0x8F) && two_tails(text, at + 2)),
         _ => 0,
     }

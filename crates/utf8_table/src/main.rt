@@ -1,5 +1,7 @@
 // Texts at the limits of each row of RFC 3629, section 4, and others, with how many bytes of each are whole characters. The program
 // writes a line for each: its bytes, the number found and the number expected, which stands beside the text here.
+#![tactic(auto)]
+
 use libc::STDOUT_FILENO;
 
 // Writes a byte in hexadecimal, and a space.
@@ -34,7 +36,7 @@ fn row_0() {
     case(b"\x80", 0);
 }
 
-// Row 1, UTF8-2 = %xC2-DF utf8_tail: its limits, and each passed by one.
+// Row 1, UTF8-2 = %xC2-DF UTF8-tail: its limits, and each passed by one.
 fn row_1() {
     case(b"\xC2\x80", 2);
     case(b"\xDF\xBF", 2);
@@ -44,7 +46,7 @@ fn row_1() {
     case(b"\xDF\xC0", 0);
 }
 
-// Row 2, %xE0 %xA0-BF utf8_tail of UTF8-3: its limits, and each passed by one.
+// Row 2, %xE0 %xA0-BF UTF8-tail of UTF8-3: its limits, and each passed by one.
 fn row_2() {
     case(b"\xE0\xA0\x80", 3);
     case(b"\xE0\xBF\xBF", 3);
@@ -56,7 +58,7 @@ fn row_2() {
     case(b"\xE0\xBF\xC0", 0);
 }
 
-// Row 3, %xE1-EC 2( utf8_tail ) of UTF8-3: its limits, and each passed by one.
+// Row 3, %xE1-EC 2( UTF8-tail ) of UTF8-3: its limits, and each passed by one.
 fn row_3() {
     case(b"\xE1\x80\x80", 3);
     case(b"\xEC\xBF\xBF", 3);
@@ -68,7 +70,7 @@ fn row_3() {
     case(b"\xEC\xBF\xC0", 0);
 }
 
-// Row 4, %xED %x80-9F utf8_tail of UTF8-3: its limits, and each passed by one.
+// Row 4, %xED %x80-9F UTF8-tail of UTF8-3: its limits, and each passed by one.
 fn row_4() {
     case(b"\xED\x80\x80", 3);
     case(b"\xED\x9F\xBF", 3);
@@ -80,7 +82,7 @@ fn row_4() {
     case(b"\xED\x9F\xC0", 0);
 }
 
-// Row 5, %xEE-EF 2( utf8_tail ) of UTF8-3: its limits, and each passed by one.
+// Row 5, %xEE-EF 2( UTF8-tail ) of UTF8-3: its limits, and each passed by one.
 fn row_5() {
     case(b"\xEE\x80\x80", 3);
     case(b"\xEF\xBF\xBF", 3);
@@ -92,7 +94,7 @@ fn row_5() {
     case(b"\xEF\xBF\xC0", 0);
 }
 
-// Row 6, %xF0 %x90-BF 2( utf8_tail ) of UTF8-4: its limits, and each passed by one.
+// Row 6, %xF0 %x90-BF 2( UTF8-tail ) of UTF8-4: its limits, and each passed by one.
 fn row_6() {
     case(b"\xF0\x90\x80\x80", 4);
     case(b"\xF0\xBF\xBF\xBF", 4);
@@ -106,7 +108,7 @@ fn row_6() {
     case(b"\xF0\xBF\xBF\xC0", 0);
 }
 
-// Row 7, %xF1-F3 3( utf8_tail ) of UTF8-4: its limits, and each passed by one.
+// Row 7, %xF1-F3 3( UTF8-tail ) of UTF8-4: its limits, and each passed by one.
 fn row_7() {
     case(b"\xF1\x80\x80\x80", 4);
     case(b"\xF3\xBF\xBF\xBF", 4);
@@ -120,7 +122,7 @@ fn row_7() {
     case(b"\xF3\xBF\xBF\xC0", 0);
 }
 
-// Row 8, %xF4 %x80-8F 2( utf8_tail ) of UTF8-4: its limits, and each passed by one.
+// Row 8, %xF4 %x80-8F 2( UTF8-tail ) of UTF8-4: its limits, and each passed by one.
 fn row_8() {
     case(b"\xF4\x80\x80\x80", 4);
     case(b"\xF4\x8F\xBF\xBF", 4);

@@ -3,7 +3,7 @@ use Rattle.std.specs.Prelude.{ℕ, ◌+◌, ◌≤◌, ◌<◌, ◌≡◌, refl,
 use Rattle.std.proofs.Common.{arith, sym, ap, eqb-true, eq-eqb}
 use mathlib.Core.List.{List, [], ◌∷◌, ◌++◌, Memᴰ}
 use Rattle.utf8.specs.Laws.{clash}
-use Rattle.json.specs.Tree.{Json, Items, Members}
+use Rattle.json_text.specs.Tree.{Json, Items, Members}
 use Rattle.grammar.specs.Order.{Spans, Row, Rows}
 use Rattle.grammar.specs.Order as order
 use Rattle.everywhere.specs.Parts.{Part, part_place, part_end, parts, parts_in, parts_of}

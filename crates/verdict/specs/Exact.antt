@@ -8,9 +8,9 @@ use mathlib.Core.List.Memᴰ
 use mathlib.Core.List.{List, [], ◌∷◌, Memᴰ}
 use Rattle.std.proofs.Math.Logic.{inl, inr}
 use Rattle.utf8.specs.Utf8.{whole_length}
-use Rattle.json.specs.Tree.{Json}
-use Rattle.json.specs.Machine.{Outcome, reads, bad, too_deep, read}
-use Rattle.json.specs.Grammar.{Text, Begins}
+use Rattle.json_text.specs.Tree.{Json}
+use Rattle.json_text.specs.Machine.{Outcome, reads, bad, too_deep, read}
+use Rattle.json_text.specs.Grammar.{Text, Begins}
 use Rattle.grammar.specs.Theorems.{read-text, one-tree, ordered, Stopped, stops, stops-exactly, bad-never, deep-deeper}
 use Rattle.grammar.specs.Reaches.{shorter, begun}
 use Rattle.nodes.specs.Faults.{fault, rule_of, place_in, least, no_fault}

@@ -3,8 +3,8 @@
 -- The starred readings are in `sheets`.
 use Rattle.std.specs.Prelude.{ℕ, ◌≡◌, refl, List, [], ◌++◌, replicate}
 use Rattle.utf8.specs.Ascii.{ascii, is_digit}
-use Rattle.json.specs.Tree.{◌◂◌, with}
-use Rattle.json.specs.Machine.{step, want_step, got_step, next_step, name_step, mant_step, nought_step, is_blank, is_hex, is_escape}
+use Rattle.json_text.specs.Tree.{◌◂◌, with}
+use Rattle.json_text.specs.Machine.{step, want_step, got_step, next_step, name_step, mant_step, nought_step, is_blank, is_hex, is_escape}
 use Rattle.verdict.specs.Verdict.{Verdict, accepted, refused, verdict}
 use Rattle.verdict.specs.Exact.{Least, refused-least}
 

@@ -12,8 +12,8 @@ use Prim.Native.String.{String}
 use Rattle.std.proofs.Math.Dec.{eqb, leb→le, ltb→lt}
 use Rattle.utf8.specs.Ascii.{ascii}
 use Rattle.utf8.specs.Utf8.{same}
-use Rattle.json.specs.Tree.{Json, Items, ◌▸◌, Members, member, Name, place_of}
-use Rattle.json.specs.Tree as tree
+use Rattle.json_text.specs.Tree.{Json, Items, ◌▸◌, Members, member, Name, place_of}
+use Rattle.json_text.specs.Tree as tree
 use Rattle.grammar.specs.Order.{Spans, Row, Rows}
 use Rattle.grammar.specs.Order as order
 use Rattle.strings.specs.Strings.{decode, unpaired_from}

@@ -2,8 +2,8 @@
 use Rattle.std.specs.Prelude.{ℕ, cond, List, ◌++◌, map, length, ltb}
 use Rattle.std.proofs.Math.Option.{Option, none, some}
 use Rattle.utf8.specs.Utf8.{whole_length}
-use Rattle.json.specs.Tree.{Json}
-use Rattle.json.specs.Machine.{Outcome, reads, bad, too_deep, read}
+use Rattle.json_text.specs.Tree.{Json}
+use Rattle.json_text.specs.Machine.{Outcome, reads, bad, too_deep, read}
 use Rattle.everywhere.specs.Everywhere.{rule5, rule6}
 use Rattle.everywhere.specs.Parts.{parts}
 use Rattle.nodes.specs.Faults.{fault, rule_of, place_in, least, no_fault}

@@ -1,1 +1,2 @@
 // The verdict of a text: definitions and theorems. There is no code here.
+#![tactic(auto)]

@@ -1,4 +1,6 @@
 // The words of docs/RULES.md and their codes.
+#![tactic(auto)]
+
 ghost use Rattle.std.specs.Prelude.{◌+◌, ◌<◌, ◌≡◌, true, length};
 ghost use Rattle.strings.specs.Spans.{Span, decode_at};
 ghost use Rattle.words.specs.Words.{code_of, object_words, geometry_words, surface_words};

@@ -1,5 +1,7 @@
 // Writes numbers and strings to a lent sheet. A place in the sheet is a cursor, which may lie past the sheet's end:
 // a number or a string that does not fit is counted and not written.
+#![tactic(auto)]
+
 ghost use Rattle.std.specs.Prelude.{◌+◌, ◌^◌, ◌≤◌, ◌<◌, ◌≡◌, length, replicate};
 ghost use Rattle.strings.specs.Spans.{Span, decode_at};
 ghost use Rattle.utf8.specs.Bytes.{le};

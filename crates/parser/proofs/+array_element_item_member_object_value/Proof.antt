@@ -32,7 +32,7 @@ use Rattle.scalars.proofs.digits_end.Reads as digits-end-reads
 use Rattle.parser.proofs.member_name.Reads as member-name-reads
 use Rattle.parser.proofs.opening.Reads as opening-reads
 use Rattle.parser.proofs.put_node.Reads as put-node-reads
-use Rattle.json.proofs.skip_blanks.Reads as skip-blanks-reads
+use Rattle.json_text.proofs.skip_blanks.Reads as skip-blanks-reads
 use Rattle.parser.proofs.text_node.Reads as text-node-reads
 use Rattle.parser.proofs.+array_element_item_member_object_value.{statement}
 use Rattle.parser.proofs.+array_element_item_member_object_value.Tie.{close}

@@ -1,5 +1,5 @@
 -- `scalars::is_digit` meets its contract.
-use Rattle.json.proofs.Bytes.{bytes}
+use Rattle.json_text.proofs.Bytes.{bytes}
 use Rattle.scalars.proofs.is_digit.Statement.{statement}
 use Rattle.scalars.proofs.is_digit.Tie as tie
 

@@ -1,7 +1,7 @@
 -- `scalars::skip_digits` meets its contract.
 use Prim.Native.Nat.{◌-◌}
 use lib.ListN.{length}
-use Rattle.json.specs.Says.{Stays, digital}
+use Rattle.json_text.specs.Says.{Stays, digital}
 use Rattle.scalars.proofs.Rules.{lexes}
 use Rattle.scalars.proofs.skip_digits.Statement.{statement}
 use Rattle.scalars.proofs.skip_digits.Tie as tie

@@ -1,7 +1,7 @@
 -- `scalars::word` meets its contract.
 use Prim.Native.Nat.{◌≤◌, ◌-◌}
 use lib.ListN.{length}
-use Rattle.json.proofs.Parts.{Spells}
+use Rattle.json_text.proofs.Parts.{Spells}
 use Rattle.scalars.proofs.Rules.{lexes}
 use Rattle.scalars.proofs.word.Statement.{statement}
 use Rattle.scalars.proofs.word.Tie as tie

@@ -5,14 +5,14 @@ use Rattle.strings.proofs.Rules.{turns}
 use Rattle.strings.proofs.copy_ahead.Statement.{statement}
 use Rattle.strings.proofs.copy_ahead.Tie as tie
 
-abbrev invariant-loop : tie.invariant-loop
+abbrev invariant-loop : tie.invariant-loop-b
 invariant-loop text out₀ to c₀ o₀ out c o = (Span text c.at c.end) × Writing (ahead text c₀) (ahead text c) out₀ out to o
 
-abbrev decreases-loop : tie.decreases-loop
+abbrev decreases-loop : tie.decreases-loop-b
 decreases-loop text out₀ to c₀ o₀ out c o = away c
 
-pub copy-ahead-spec : {M : Type 1} → statement M
-copy-ahead-spec =
+pub copy_ahead_spec : {M : Type 1} → statement M
+copy_ahead_spec =
     tie.close
     (tie.spec
     invariant-loop

@@ -6,14 +6,14 @@ use Rattle.strings.proofs.Rules.{turns}
 use Rattle.strings.proofs.decoded_length.Statement.{statement}
 use Rattle.strings.proofs.decoded_length.Tie as tie
 
-abbrev invariant-loop : tie.invariant-loop
+abbrev invariant-loop : tie.invariant-loop-i
 invariant-loop text at end i₀ n₀ i n = (Span text i end) × (n + at ≤ i) × Counting (decode_at text at end) (decode_at text i end) n
 
-abbrev decreases-loop : tie.decreases-loop
+abbrev decreases-loop : tie.decreases-loop-i
 decreases-loop text at end i₀ n₀ i n = end - i
 
-pub decoded-length-spec : {M : Type 1} → statement M
-decoded-length-spec =
+pub decoded_length_spec : {M : Type 1} → statement M
+decoded_length_spec =
     tie.close
     (tie.spec
     invariant-loop

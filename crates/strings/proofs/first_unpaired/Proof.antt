@@ -6,14 +6,14 @@ use Rattle.strings.proofs.Rules.{turns}
 use Rattle.strings.proofs.first_unpaired.Statement.{statement}
 use Rattle.strings.proofs.first_unpaired.Tie as tie
 
-abbrev invariant-loop : tie.invariant-loop
+abbrev invariant-loop : tie.invariant-loop-i
 invariant-loop text at end i₀ i = (Span text i end) × (first_of (unpaired_at text at end) ≡ first_of (unpaired_at text i end))
 
-abbrev decreases-loop : tie.decreases-loop
+abbrev decreases-loop : tie.decreases-loop-i
 decreases-loop text at end i₀ i = end - i
 
-pub first-unpaired-spec : {M : Type 1} → statement M
-first-unpaired-spec =
+pub first_unpaired_spec : {M : Type 1} → statement M
+first_unpaired_spec =
     tie.close
     (tie.spec
     invariant-loop

@@ -7,14 +7,14 @@ use Rattle.utf8.proofs.Rules.{chars}
 use Rattle.utf8.proofs.characters.Statement.{statement}
 use Rattle.utf8.proofs.characters.Tie as tie
 
-abbrev invariant-loop : tie.invariant-loop
+abbrev invariant-loop : tie.invariant-loop-i
 invariant-loop text at end i₀ i = (end ≤ length text) × Reached text at i
 
-abbrev decreases-loop : tie.decreases-loop
+abbrev decreases-loop : tie.decreases-loop-i
 decreases-loop text at end i₀ i = length text - i
 
-pub characters-spec : {M : Type 1} → statement M
-characters-spec =
+pub characters_spec : {M : Type 1} → statement M
+characters_spec =
     tie.close
     (tie.spec
     invariant-loop
@@ -22,7 +22,7 @@ characters-spec =
     (λ c. search chars)
     (λ c κs. search chars)
     (λ c. search chars)
-    (λ c. let l = c.before.before.before.loop in omega (arith, inside _ l.i _ (omega (arith, l.invariant.0)) c.before.character.ensures))
+    (λ c. let l = c.loop-i in omega (arith, inside _ l.i _ (omega (arith, l.invariant.0)) c.character-n.ensures))
     (λ c. search chars)
     (λ c. search chars)
     (λ c. search chars))

@@ -6,14 +6,14 @@ use Rattle.utf8.proofs.Rules.{chars}
 use Rattle.utf8.proofs.gathered.Statement.{statement}
 use Rattle.utf8.proofs.gathered.Tie as tie
 
-abbrev invariant-loop : tie.invariant-loop
+abbrev invariant-loop : tie.invariant-loop-k
 invariant-loop text at all₀ k₀ all k = (at + 64 ≤ length text) × Under text at k all
 
-abbrev decreases-loop : tie.decreases-loop
+abbrev decreases-loop : tie.decreases-loop-k
 decreases-loop text at all₀ k₀ all k = 64 - k
 
-pub gathered-spec : {M : Type 1} → statement M
-gathered-spec =
+pub gathered_spec : {M : Type 1} → statement M
+gathered_spec =
     tie.close
     (tie.spec
     invariant-loop

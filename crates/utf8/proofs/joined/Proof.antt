@@ -4,5 +4,5 @@ use lib.Bits.{or_add_and, and_le_l, and_le_r}
 use Rattle.utf8.proofs.joined.Statement.{statement}
 use Rattle.utf8.proofs.joined.Tie as tie
 
-pub joined-spec : {M : Type 1} → statement M
-joined-spec = tie.close (tie.spec (λ c. omega (arith, or_add_and c.args.a c.args.b, and_le_l c.args.a c.args.b, and_le_r c.args.a c.args.b)))
+pub joined_spec : {M : Type 1} → statement M
+joined_spec = tie.close (tie.spec (λ c. omega (arith, or_add_and c.args.a c.args.b, and_le_l c.args.a c.args.b, and_le_r c.args.a c.args.b)))

@@ -6,12 +6,12 @@ use Rattle.utf8.proofs.Rules.{chars}
 use Rattle.utf8.proofs.two_tails.Statement.{statement}
 use Rattle.utf8.proofs.two_tails.Tie as tie
 
-pub two-tails-spec : {M : Type 1} → statement M
-two-tails-spec =
+pub two_tails_spec : {M : Type 1} → statement M
+two_tails_spec =
     tie.close
     (tie.spec
     (λ c κs. search chars)
-    (λ c. omega (arith, there _ c.before.before.before.args.at utf8_tail c.before.tail.ensures c.if1.true))
+    (λ c. omega (arith, there _ c.args.at utf8_tail c.tail.ensures c.if-tail.true))
     (λ c κs. search chars)
     (λ c. search chars)
     (λ c. search chars))

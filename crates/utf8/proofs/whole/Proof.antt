@@ -6,14 +6,14 @@ use Rattle.utf8.proofs.Rules.{chars}
 use Rattle.utf8.proofs.whole.Statement.{statement}
 use Rattle.utf8.proofs.whole.Tie as tie
 
-abbrev invariant-loop : tie.invariant-loop
+abbrev invariant-loop : tie.invariant-loop-at
 invariant-loop text at₀ at = Reached text 0 at
 
-abbrev decreases-loop : tie.decreases-loop
+abbrev decreases-loop : tie.decreases-loop-at
 decreases-loop text at₀ at = length text - at
 
-pub whole-spec : {M : Type 1} → statement M
-whole-spec =
+pub whole_spec : {M : Type 1} → statement M
+whole_spec =
     tie.close
     (tie.spec
     invariant-loop
