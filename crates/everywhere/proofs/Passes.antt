@@ -48,7 +48,7 @@ mutual
 
   unpaired-members : (ms : Members) → unpaired_in (strings_of ms) ≡ flat_map own5 (parts_of ms)
   unpaired-members tree.empty = refl
-  unpaired-members (member k v ms) = rw (unpaired-++, flat-++, unpaired-parts v, unpaired-members ms)
+  unpaired-members (member k v ms) = rw (unpaired-++, flat-++ own5 _ _, unpaired-parts v, unpaired-members ms)
 
 pub rule5-parts : (v : Json) → rule5 v ≡ flat_map own5 (parts v)
 unfolding rule5

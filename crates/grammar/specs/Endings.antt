@@ -6,7 +6,8 @@ use Rattle.std.proofs.Math.Path.{refl}
 use Rattle.std.proofs.Math.Option.{Option}
 use mathlib.Core.List.{List, [], ◌∷◌, ◌++◌}
 use Rattle.utf8.specs.Ascii.{is_digit}
-use Rattle.json_text.specs.Tree.{Json, Members, Name}
+use Rattle.json_text.specs.Tree.{Json, Members, Name, ◌◂◌, with}
+use Rattle.json_text.specs.Tree as tree
 use Rattle.json_text.specs.Machine.{Frame, array, object, Role, value, Mode, go, reads, run, step, got_step, mant_step, nought_step, is_blank, is_hex, is_escape, numeral}
 use Rattle.json_text.specs.Machine.Role.{name}
 use Rattle.json_text.specs.Machine.Mode.{want, first, name0, name1, colon, got, chars, esc, hex, neg, nought, int, dot, frac, mant, exp, sign, exps, lit}
@@ -98,8 +99,8 @@ module _ (most : ℕ) (x : List ℕ) where
   ends-got : (v : Json) (ks : List Frame) (n : ℕ) → Ends most x (got v) ks n (closers ks)
   unfolding run
   ends-got v [] n = record { tree = v; runs = refl }
-  ends-got v (array p vs ∷ ks) n = by_byte (st.array-close most x n 93 v p vs ks refl) (ends-got _ ks (n + 1))
-  ends-got v (object p ms k ∷ ks) n = by_byte (st.object-close most x n 125 v p ms k ks refl) (ends-got _ ks (n + 1))
+  ends-got v (array p vs ∷ ks) n = by_byte (st.array-close most x n 93 v p vs ks refl) (ends-got (tree.Json.arr p (n + 1) (vs ◂ v)) ks (n + 1))
+  ends-got v (object p ms k ∷ ks) n = by_byte (st.object-close most x n 125 v p ms k ks refl) (ends-got (tree.Json.obj p (n + 1) (with ms k v)) ks (n + 1))
 
   -- after a name
   ends-colon : (p : ℕ) (ms : Members) (k : Name) (ks : List Frame) (n : ℕ) → Ends most x (colon p ms k) ks n (named ks)

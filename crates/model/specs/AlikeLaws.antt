@@ -133,7 +133,7 @@ pigeonhole (a ∷ l) m d h n =
   where
     by : (v : List ℕ) (j : Json) → first_named v m ≡ some j → (b : Bool) → same v (name_of a) ≡ b
         → Within (without (name_of a) m) l → (k : Json) × (first_named v (a ∷ l) ≡ some k)
-    by v j e true t back = (a.1, rw (same-equal v (name_of a) t) (named-first a l))
+    by v j e true t back = (a.1, subst (λ (u : List ℕ). first_named u (a ∷ l) ≡ some a.1) (sym (same-equal v (name_of a) t)) (named-first a l))
     by v j e false t back =
         let n : v ≡ name_of a → ⊥ = λ q. never (rw q (same_refl (name_of a))) t in
         let (k, f) = back v j (without_other (name_of a) v m n ∙ e) in

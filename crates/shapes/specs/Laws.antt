@@ -20,7 +20,7 @@ use Rattle.nodes.specs.Says.{Node, Gives, Seeks}
 use Rattle.nodes.specs.declared.Found.{Found}
 use Rattle.nodes.specs.Reads.{node-room, node-second, node-first, node-onward}
 use Rattle.nodes.specs.Laws.{place_at, text-at, numeral-at, elements-begin, fields-begin, no-elements, no-members, least-++, least-comm}
-use Rattle.shapes.specs.Checks.{Check, unless, all, at, for_each, each_element, values, each_member, object_kind, string_kind, number_kind, array_kind, is_some, rules, text, numeral}
+use Rattle.shapes.specs.Checks.{Check, unless, all, at, for_each, each_element, values, each_member, object_kind, string_kind, number_kind, array_kind, is_some, needs, text, numeral}
 use Rattle.shapes.specs.Shapes.{is_integer_value}
 use Rattle.shapes.specs.Says.{Needs}
 
@@ -37,9 +37,9 @@ unfolding for_each
 least-for_each b c v vs = least-++ b (c v) (for_each c vs)
 
 pub least-needs : (b : ℕ) (n : String) (ns : List String) (v : Json)
-    → least b (rules (n ∷ ns) v) ≡ least (least b (unless (not (is_object_value v) || is_some (find n v)) 8 v)) (rules ns v)
-unfolding rules
-least-needs b n ns v = least-++ b (unless (not (is_object_value v) || is_some (find n v)) 8 v) (rules ns v)
+    → least b (needs (n ∷ ns) v) ≡ least (least b (unless (not (is_object_value v) || is_some (find n v)) 8 v)) (needs ns v)
+unfolding needs
+least-needs b n ns v = least-++ b (unless (not (is_object_value v) || is_some (find n v)) 8 v) (needs ns v)
 
 -- two checks of each are one check of each and the other of each
 pub least-for_each-++ : (b : ℕ) (c d : Check) (vs : List Json) → least b (for_each (λ w. c w ++ d w) vs) ≡ least b (for_each c vs ++ for_each d vs)
@@ -122,14 +122,14 @@ module _ {x t : List ℕ} {i : ℕ} where
   all_then best m c cs g h = gives_then best m c (all cs) g h
 
   -- rule 8, name by name
-  pub needs-none : {best : ℕ} → Gives (λ v. least best (rules [] v)) x t i best
-  unfolding least rules
+  pub needs-none : {best : ℕ} → Gives (λ v. least best (needs [] v)) x t i best
+  unfolding least needs
   needs-none = record { is = λ v s. refl }
 
   pub needs-then : (best m : ℕ) (n : String) (ns : List String) {r : ℕ} {found : Found} → Seeks (λ v. find n v) x t i found → Needs x t found i best m
-      → Gives (λ v. least m (rules ns v)) x t i r → Gives (λ v. least best (rules (n ∷ ns) v)) x t i r
+      → Gives (λ v. least m (needs ns v)) x t i r → Gives (λ v. least best (needs (n ∷ ns) v)) x t i r
   needs-then best m n ns f g h =
-      record { is = λ v s. h.is v s ∙ (ap (λ (a : ℕ). least a (rules ns v)) (g.is v (find n v) s (f.finds v s)) ∙ sym (least-needs best n ns v)) }
+      record { is = λ v s. h.is v s ∙ (ap (λ (a : ℕ). least a (needs ns v)) (g.is v (find n v) s (f.finds v s)) ∙ sym (least-needs best n ns v)) }
 
   -- a search for a name that is written as bytes
   pub seeks-find : {ws : List ℕ} {found : Found} (name : String) → ws ≡ ascii name → Seeks (λ v. first_named ws (members v)) x t i found

@@ -8,14 +8,14 @@ use Rattle.compare.proofs.Rules.{turns}
 use Rattle.compare.proofs.is_word_ahead.Statement.{statement}
 use Rattle.compare.proofs.is_word_ahead.Tie as tie
 
-abbrev invariant-loop : tie.invariant-loop
+abbrev invariant-loop : tie.invariant-loop-b
 invariant-loop text word start c₀ k₀ c k = (Span text c.at c.end) × (k ≤ length word) × (same (drop start word) (ahead text c₀) ≡ same (drop k word) (ahead text c))
 
-abbrev decreases-loop : tie.decreases-loop
+abbrev decreases-loop : tie.decreases-loop-b
 decreases-loop text word start c₀ k₀ c k = away c
 
-pub is-word-ahead-spec : {M : Type 1} → statement M
-is-word-ahead-spec =
+pub is_word_ahead_spec : {M : Type 1} → statement M
+is_word_ahead_spec =
     tie.close
     (tie.spec
     invariant-loop

@@ -8,14 +8,14 @@ use Rattle.compare.proofs.Rules.{turns}
 use Rattle.compare.proofs.is_word_decoded.Statement.{statement}
 use Rattle.compare.proofs.is_word_decoded.Tie as tie
 
-abbrev invariant-loop : tie.invariant-loop
+abbrev invariant-loop : tie.invariant-loop-i
 invariant-loop text at end word i₀ k₀ i k = (Span text i end) × (k ≤ length word) × (same word (decode_at text at end) ≡ same (drop k word) (decode_at text i end))
 
-abbrev decreases-loop : tie.decreases-loop
+abbrev decreases-loop : tie.decreases-loop-i
 decreases-loop text at end word i₀ k₀ i k = end - i
 
-pub is-word-decoded-spec : {M : Type 1} → statement M
-is-word-decoded-spec =
+pub is_word_decoded_spec : {M : Type 1} → statement M
+is_word_decoded_spec =
     tie.close
     (tie.spec
     invariant-loop

@@ -6,14 +6,14 @@ use Rattle.compare.proofs.Rules.{turns}
 use Rattle.compare.proofs.same_ahead.Statement.{statement}
 use Rattle.compare.proofs.same_ahead.Tie as tie
 
-abbrev invariant-loop : tie.invariant-loop
+abbrev invariant-loop : tie.invariant-loop-a
 invariant-loop text c₀ d₀ c d = (Span text c.at c.end) × (Span text d.at d.end) × (same (ahead text c₀) (ahead text d₀) ≡ same (ahead text c) (ahead text d))
 
-abbrev decreases-loop : tie.decreases-loop
+abbrev decreases-loop : tie.decreases-loop-a
 decreases-loop text c₀ d₀ c d = away c
 
-pub same-ahead-spec : {M : Type 1} → statement M
-same-ahead-spec =
+pub same_ahead_spec : {M : Type 1} → statement M
+same_ahead_spec =
     tie.close
     (tie.spec
     invariant-loop

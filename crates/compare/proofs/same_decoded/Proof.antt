@@ -7,14 +7,14 @@ use Rattle.compare.proofs.Rules.{turns}
 use Rattle.compare.proofs.same_decoded.Statement.{statement}
 use Rattle.compare.proofs.same_decoded.Tie as tie
 
-abbrev invariant-loop : tie.invariant-loop
+abbrev invariant-loop : tie.invariant-loop-i
 invariant-loop text at end at2 end2 i₀ j₀ i j = (Span text i end) × (Span text j end2) × (same (decode_at text at end) (decode_at text at2 end2) ≡ same (decode_at text i end) (decode_at text j end2))
 
-abbrev decreases-loop : tie.decreases-loop
+abbrev decreases-loop : tie.decreases-loop-i
 decreases-loop text at end at2 end2 i₀ j₀ i j = end - i
 
-pub same-decoded-spec : {M : Type 1} → statement M
-same-decoded-spec =
+pub same_decoded_spec : {M : Type 1} → statement M
+same_decoded_spec =
     tie.close
     (tie.spec
     invariant-loop

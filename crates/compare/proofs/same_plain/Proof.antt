@@ -7,16 +7,16 @@ use Rattle.compare.proofs.Rules.{scans}
 use Rattle.compare.proofs.same_plain.Statement.{statement}
 use Rattle.compare.proofs.same_plain.Tie as tie
 
-abbrev invariant-loop : tie.invariant-loop
+abbrev invariant-loop : tie.invariant-loop-i
 invariant-loop text at end at2 i₀ j₀ i j =
     (Span text i end) × (Span text j (at2 + (end - at))) × (i + at2 ≡ j + at) ×
     (same (decode_at text at end) (decode_at text at2 (at2 + (end - at))) ≡ same (decode_at text i end) (decode_at text j (at2 + (end - at))))
 
-abbrev decreases-loop : tie.decreases-loop
+abbrev decreases-loop : tie.decreases-loop-i
 decreases-loop text at end at2 i₀ j₀ i j = end - i
 
-pub same-plain-spec : {M : Type 1} → statement M
-same-plain-spec =
+pub same_plain_spec : {M : Type 1} → statement M
+same_plain_spec =
     tie.close
     (tie.spec
     invariant-loop

@@ -3,8 +3,8 @@ use Rattle.compare.proofs.Rules.{scans}
 use Rattle.compare.proofs.same_string.Statement.{statement}
 use Rattle.compare.proofs.same_string.Tie as tie
 
-pub same-string-spec : {M : Type 1} → statement M
-same-string-spec =
+pub same_string_spec : {M : Type 1} → statement M
+same_string_spec =
     tie.close
     (tie.spec
     (λ c. search scans) (λ c. search scans) (λ c κs. search scans) (λ c. search scans) (λ c κs. search scans) (λ c. search scans))

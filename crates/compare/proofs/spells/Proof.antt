@@ -8,14 +8,14 @@ use Rattle.compare.proofs.Rules.{scans}
 use Rattle.compare.proofs.spells.Statement.{statement}
 use Rattle.compare.proofs.spells.Tie as tie
 
-abbrev invariant-loop : tie.invariant-loop
+abbrev invariant-loop : tie.invariant-loop-k
 invariant-loop text at word k₀ k = (k ≤ length word) × (same word (decode_at text at (at + length word)) ≡ same (drop k word) (decode_at text (at + k) (at + length word)))
 
-abbrev decreases-loop : tie.decreases-loop
+abbrev decreases-loop : tie.decreases-loop-k
 decreases-loop text at word k₀ k = length word - k
 
-pub spells-spec : {M : Type 1} → statement M
-spells-spec =
+pub spells_spec : {M : Type 1} → statement M
+spells_spec =
     tie.close
     (tie.spec
     invariant-loop

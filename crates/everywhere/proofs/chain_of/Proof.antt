@@ -3,8 +3,8 @@ use Rattle.everywhere.proofs.Hashes.{hashes}
 use Rattle.everywhere.proofs.chain_of.Statement.{statement}
 use Rattle.everywhere.proofs.chain_of.Tie as tie
 
-pub chain-of-spec : {M : Type 1} → statement M
-chain-of-spec =
+pub chain_of_spec : {M : Type 1} → statement M
+chain_of_spec =
     tie.close
     (tie.spec
     (λ c κs. search hashes)

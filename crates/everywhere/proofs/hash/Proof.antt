@@ -6,14 +6,14 @@ use Rattle.everywhere.proofs.Hashes.{Hashing, hashes}
 use Rattle.everywhere.proofs.hash.Statement.{statement}
 use Rattle.everywhere.proofs.hash.Tie as tie
 
-abbrev invariant-loop : tie.invariant-loop
+abbrev invariant-loop : tie.invariant-loop-i
 invariant-loop text at end i₀ h₀ i h = (Span text i end) × Hashing (hash_from 0 (decode_at text at end)) (decode_at text i end) h
 
-abbrev decreases-loop : tie.decreases-loop
+abbrev decreases-loop : tie.decreases-loop-i
 decreases-loop text at end i₀ h₀ i h = end - i
 
-pub hash-spec : {M : Type 1} → statement M
-hash-spec =
+pub hash_spec : {M : Type 1} → statement M
+hash_spec =
     tie.close
     (tie.spec
     invariant-loop

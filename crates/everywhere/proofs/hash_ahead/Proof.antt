@@ -5,14 +5,14 @@ use Rattle.everywhere.proofs.Hashes.{Hashing, hashes}
 use Rattle.everywhere.proofs.hash_ahead.Statement.{statement}
 use Rattle.everywhere.proofs.hash_ahead.Tie as tie
 
-abbrev invariant-loop : tie.invariant-loop
+abbrev invariant-loop : tie.invariant-loop-b
 invariant-loop text seed c₀ h₀ c h = (Span text c.at c.end) × Hashing (hash_from seed (ahead text c₀)) (ahead text c) h
 
-abbrev decreases-loop : tie.decreases-loop
+abbrev decreases-loop : tie.decreases-loop-b
 decreases-loop text seed c₀ h₀ c h = away c
 
-pub hash-ahead-spec : {M : Type 1} → statement M
-hash-ahead-spec =
+pub hash_ahead_spec : {M : Type 1} → statement M
+hash_ahead_spec =
     tie.close
     (tie.spec
     invariant-loop

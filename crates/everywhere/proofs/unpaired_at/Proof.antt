@@ -3,8 +3,8 @@ use Rattle.everywhere.proofs.Rule5.{rule5s}
 use Rattle.everywhere.proofs.unpaired_at.Statement.{statement}
 use Rattle.everywhere.proofs.unpaired_at.Tie as tie
 
-pub unpaired-at-spec : {M : Type 1} → statement M
-unpaired-at-spec =
+pub unpaired_at_spec : {M : Type 1} → statement M
+unpaired_at_spec =
     tie.close
     (tie.spec
     (λ c κs. search rule5s)

@@ -3,8 +3,8 @@ use Rattle.fields.proofs.Rules.{fields}
 use Rattle.fields.proofs.count_found.Statement.{statement}
 use Rattle.fields.proofs.count_found.Tie as tie
 
-pub count-found-spec : {M : Type 1} → statement M
-count-found-spec =
+pub count_found_spec : {M : Type 1} → statement M
+count_found_spec =
     tie.close
     (tie.spec
     (λ c. search fields)

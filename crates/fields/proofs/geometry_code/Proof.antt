@@ -3,8 +3,8 @@ use Rattle.fields.proofs.Rules.{fields}
 use Rattle.fields.proofs.geometry_code.Statement.{statement}
 use Rattle.fields.proofs.geometry_code.Tie as tie
 
-pub geometry-code-spec : {M : Type 1} → statement M
-geometry-code-spec =
+pub geometry_code_spec : {M : Type 1} → statement M
+geometry_code_spec =
     tie.close
     (tie.spec
     (λ c. search fields)

@@ -1,19 +1,20 @@
 -- `fields::is_word` meets its contract.
+use Rattle.std.proofs.lemmas.Bool.{not_from_false, not_from_true}
 use Rattle.fields.specs.Laws.{string-node}
 use Rattle.fields.proofs.Rules.{fields, is-other, is-text}
 use Rattle.fields.proofs.is_word.Statement.{statement}
 use Rattle.fields.proofs.is_word.Tie as tie
 
-returns : tie.Need-returns
-returns c = is-other _ c.before.is-string.ensures (search) c.if1.true
+returns : tie.Need-returns-then-not-is_string
+returns c = is-other _ c.is_string.ensures (search) (not_from_false _ c.if-not-is_string.true)
 
-returns-2 : tie.Need-returns-2
+returns-2 : tie.Need-returns
 returns-2 c =
-    is-text _ (string-node (search) c.before.before.before.before.is-string.ensures c.before.before.before.if1.false)
-    c.before.before.text-from.ensures c.before.text-to.ensures c.is_IsWord.ensures
+    is-text _ (string-node (search) c.is_string.ensures (not_from_true _ c.if-not-is_string.false))
+    c.text_from.ensures c.text_to.ensures c.is_word.ensures
 
-pub is-word-spec : {M : Type 1} → statement M
-is-word-spec =
+pub is_word_spec : {M : Type 1} → statement M
+is_word_spec =
     tie.close
     (tie.spec
     (λ c κs. search fields)

@@ -3,8 +3,8 @@ use Rattle.fields.proofs.Rules.{fields}
 use Rattle.fields.proofs.object_code.Statement.{statement}
 use Rattle.fields.proofs.object_code.Tie as tie
 
-pub object-code-spec : {M : Type 1} → statement M
-object-code-spec =
+pub object_code_spec : {M : Type 1} → statement M
+object_code_spec =
     tie.close
     (tie.spec
     (λ c. search fields)

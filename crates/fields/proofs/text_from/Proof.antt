@@ -5,8 +5,8 @@ use Rattle.fields.proofs.Rules.{fields}
 use Rattle.fields.proofs.text_from.Statement.{statement}
 use Rattle.fields.proofs.text_from.Tie as tie
 
-add-result : tie.Need-overflow-add-result
-add-result c = omega (arith, string-fits c.before.before.before.requires)
+add-result : tie.Need-overflow_add-result
+add-result c = omega (arith, string-fits c.requires)
 
-pub text-from-spec : {M : Type 1} → statement M
-text-from-spec = tie.close (tie.spec (λ c κs. search fields) add-result (λ c. search fields))
+pub text_from_spec : {M : Type 1} → statement M
+text_from_spec = tie.close (tie.spec (λ c κs. search fields) add-result (λ c. search fields))

@@ -3,8 +3,8 @@ use Rattle.grid.proofs.Rules.{grid}
 use Rattle.grid.proofs.power.Statement.{statement}
 use Rattle.grid.proofs.power.Tie as tie
 
-pub power-spec : {M : Type 1} → statement M
-power-spec =
+pub power_spec : {M : Type 1} → statement M
+power_spec =
     tie.close
     (tie.spec
     (λ c. search grid)

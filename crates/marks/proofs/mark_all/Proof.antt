@@ -5,14 +5,14 @@ use Rattle.marks.proofs.Rules.{filling}
 use Rattle.marks.proofs.mark_all.Statement.{statement}
 use Rattle.marks.proofs.mark_all.Tie as tie
 
-abbrev invariant-loop : tie.invariant-loop
+abbrev invariant-loop : tie.invariant-loop-k
 invariant-loop set₀ rows count good₀ k₀ set good k = Filling rows set₀ set count k good
 
-abbrev decreases-loop : tie.decreases-loop
+abbrev decreases-loop : tie.decreases-loop-k
 decreases-loop set₀ rows count good₀ k₀ set good k = count - k
 
-pub mark-all-spec : {M : Type 1} → statement M
-mark-all-spec =
+pub mark_all_spec : {M : Type 1} → statement M
+mark_all_spec =
     tie.close
     (tie.spec
     invariant-loop
@@ -22,6 +22,6 @@ mark-all-spec =
     (λ c κs. search filling)
     (λ c. search filling)
     (λ c. search filling)
-    (λ c. search (filling, c.before.before.mark-row.ensures))
+    (λ c. search (filling, c.mark_row-good.ensures))
     (λ c. search filling)
     (λ c. search filling))

@@ -5,14 +5,14 @@ use Rattle.nodes.proofs.Loops.{Counts, count_fits, loops}
 use Rattle.nodes.proofs.count.Statement.{statement}
 use Rattle.nodes.proofs.count.Tie as tie
 
-abbrev invariant-loop : tie.invariant-loop
+abbrev invariant-loop : tie.invariant-loop-k
 invariant-loop text table i n k₀ found₀ k found = Counts text table i n k found
 
-abbrev decreases-loop : tie.decreases-loop
+abbrev decreases-loop : tie.decreases-loop-k
 decreases-loop text table i n k₀ found₀ k found = n - k
 
-add-found : tie.Need-overflow-add-found invariant-loop decreases-loop
-add-found c = omega (arith, count_fits c.before.loop.invariant c.loop-test.true)
+add-found : tie.Need-overflow_add-found invariant-loop decreases-loop
+add-found c = omega (arith, count_fits c.loop-k.invariant c.loop-k-test.true)
 
 pub count_spec : {M : Type 1} → statement M
 count_spec =

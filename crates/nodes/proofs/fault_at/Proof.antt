@@ -9,5 +9,5 @@ returns : tie.Need-returns
 unfolding fault
 returns c = refl
 
-pub fault-at-spec : {M : Type 1} → statement M
-fault-at-spec = tie.close (tie.spec (λ c. search rules) (λ c. search rules) (λ c. search rules) returns)
+pub fault_at_spec : {M : Type 1} → statement M
+fault_at_spec = tie.close (tie.spec (λ c. search rules) (λ c. search rules) (λ c. search rules) returns)

@@ -4,14 +4,14 @@ use Rattle.numerals.proofs.Short.{short, Digital}
 use Rattle.numerals.proofs.all_digits.Statement.{statement}
 use Rattle.numerals.proofs.all_digits.Tie as tie
 
-abbrev invariant-loop : tie.invariant-loop
+abbrev invariant-loop : tie.invariant-loop-i
 invariant-loop text at end i₀ i = Digital text at end i
 
-abbrev decreases-loop : tie.decreases-loop
+abbrev decreases-loop : tie.decreases-loop-i
 decreases-loop text at end i₀ i = end - i
 
-pub all-digits-spec : {M : Type 1} → statement M
-all-digits-spec =
+pub all_digits_spec : {M : Type 1} → statement M
+all_digits_spec =
     tie.close
     (tie.spec
     invariant-loop

@@ -3,8 +3,8 @@ use Rattle.numerals.proofs.Wholes.{wholes}
 use Rattle.numerals.proofs.is_below.Statement.{statement}
 use Rattle.numerals.proofs.is_below.Tie as tie
 
-pub is-below-spec : {M : Type 1} → statement M
-is-below-spec =
+pub is_below_spec : {M : Type 1} → statement M
+is_below_spec =
     tie.close
     (tie.spec
     (λ c κs. search wholes)

@@ -4,14 +4,14 @@ use Rattle.numerals.proofs.Bytes.{bytes, Plain}
 use Rattle.numerals.proofs.is_integer.Statement.{statement}
 use Rattle.numerals.proofs.is_integer.Tie as tie
 
-abbrev invariant-loop : tie.invariant-loop
+abbrev invariant-loop : tie.invariant-loop-i
 invariant-loop text at end i₀ i = Plain text at end i
 
-abbrev decreases-loop : tie.decreases-loop
+abbrev decreases-loop : tie.decreases-loop-i
 decreases-loop text at end i₀ i = end - i
 
-pub is-integer-spec : {M : Type 1} → statement M
-is-integer-spec =
+pub is_integer_spec : {M : Type 1} → statement M
+is_integer_spec =
     tie.close
     (tie.spec
     invariant-loop

@@ -3,8 +3,8 @@ use Rattle.numerals.proofs.Bytes.{bytes}
 use Rattle.numerals.proofs.is_letter.Statement.{statement}
 use Rattle.numerals.proofs.is_letter.Tie as tie
 
-pub is-letter-spec : {M : Type 1} → statement M
-is-letter-spec =
+pub is_letter_spec : {M : Type 1} → statement M
+is_letter_spec =
     tie.close
     (tie.spec
     (λ c. search bytes)

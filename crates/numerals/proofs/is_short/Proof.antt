@@ -3,8 +3,8 @@ use Rattle.numerals.proofs.Short.{short}
 use Rattle.numerals.proofs.is_short.Statement.{statement}
 use Rattle.numerals.proofs.is_short.Tie as tie
 
-pub is-short-spec : {M : Type 1} → statement M
-is-short-spec =
+pub is_short_spec : {M : Type 1} → statement M
+is_short_spec =
     tie.close
     (tie.spec
     (λ c. search short)

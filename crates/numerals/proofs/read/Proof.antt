@@ -4,10 +4,10 @@ use Rattle.numerals.proofs.Sums.{digital, Inside}
 use Rattle.numerals.proofs.read.Statement.{statement}
 use Rattle.numerals.proofs.read.Tie as tie
 
-abbrev invariant-loop : tie.invariant-loop
+abbrev invariant-loop : tie.invariant-loop-i
 invariant-loop text at end s₀ i₀ s i = Inside text at end s i
 
-abbrev decreases-loop : tie.decreases-loop
+abbrev decreases-loop : tie.decreases-loop-i
 decreases-loop text at end s₀ i₀ s i = end - i
 
 pub read_spec : {M : Type 1} → statement M

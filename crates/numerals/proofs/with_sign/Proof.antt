@@ -3,8 +3,8 @@ use Rattle.numerals.proofs.Wholes.{wholes}
 use Rattle.numerals.proofs.with_sign.Statement.{statement}
 use Rattle.numerals.proofs.with_sign.Tie as tie
 
-pub with-sign-spec : {M : Type 1} → statement M
-with-sign-spec =
+pub with_sign_spec : {M : Type 1} → statement M
+with_sign_spec =
     tie.close
     (tie.spec
     (λ c. search wholes)

@@ -3,8 +3,8 @@ use Rattle.parser.proofs.Rules.{walks}
 use Rattle.parser.proofs.after.Statement.{statement}
 use Rattle.parser.proofs.after.Tie as tie
 
-pub after-spec : {M : Type 1} → statement M
-after-spec =
+pub after_spec : {M : Type 1} → statement M
+after_spec =
     tie.close
     (tie.spec
     (λ c κs. search walks) (λ c. search walks) (λ c. search walks) (λ c. search walks) (λ c. search walks) (λ c. search walks))

@@ -5,8 +5,8 @@ use Rattle.parser.proofs.Rules.{walks}
 use Rattle.parser.proofs.member_name.Statement.{statement}
 use Rattle.parser.proofs.member_name.Tie as tie
 
-pub member-name-spec : {M : Type 1} → statement M
-member-name-spec =
+pub member_name_spec : {M : Type 1} → statement M
+member_name_spec =
     tie.close
     (tie.spec
     (λ c κs. search walks) (λ c. search walks) (λ c. search walks) (λ c κs. search walks) (λ c. search walks) (λ c. search walks)

@@ -3,8 +3,8 @@ use Rattle.parser.proofs.Rules.{walks}
 use Rattle.parser.proofs.opening.Statement.{statement}
 use Rattle.parser.proofs.opening.Tie as tie
 
-pub opening-spec : {M : Type 1} → statement M
-opening-spec =
+pub opening_spec : {M : Type 1} → statement M
+opening_spec =
     tie.close
     (tie.spec
     (λ c κs. search walks) (λ c. search walks) (λ c. search walks) (λ c. search walks) (λ c. search walks))

@@ -3,8 +3,8 @@ use Rattle.parser.proofs.Rules.{walks}
 use Rattle.parser.proofs.text_node.Statement.{statement}
 use Rattle.parser.proofs.text_node.Tie as tie
 
-pub text-node-spec : {M : Type 1} → statement M
-text-node-spec =
+pub text_node_spec : {M : Type 1} → statement M
+text_node_spec =
     tie.close
     (tie.spec
     (λ c. search walks) (λ c κs. search walks) (λ c. search walks) (λ c. search walks) (λ c. search walks) (λ c κs. search walks)

@@ -9,10 +9,10 @@ again_spec =
     tie.close
     (tie.spec
     (λ c κs. search ways)
-    (λ c. search (ways, c.before.entered-long.ensures))
+    (λ c. search (ways, c.entered_long-r.ensures))
     (λ c. search ways)
     (λ c. search ways)
     (λ c. search ways)
     (λ c. search ways)
     (λ c κs. search ways)
-    (λ c. tree-last c.before.pass.ensures refl))
+    (λ c. tree-last c.pass.ensures refl))

@@ -4,14 +4,14 @@ use Rattle.repeats.proofs.Rule6.{Threads, threads}
 use Rattle.repeats.proofs.chained_in.Statement.{statement}
 use Rattle.repeats.proofs.chained_in.Tie as tie
 
-abbrev invariant-loop : tie.invariant-loop
+abbrev invariant-loop : tie.invariant-loop-k
 invariant-loop text table links₀ i best n first heads₀ least₀ k₀ links heads least k = Threads text table links₀ links heads i first n best k least
 
-abbrev decreases-loop : tie.decreases-loop
+abbrev decreases-loop : tie.decreases-loop-k
 decreases-loop text table links₀ i best n first heads₀ least₀ k₀ links heads least k = n - k
 
-pub chained-in-spec : {M : Type 1} → statement M
-chained-in-spec =
+pub chained_in_spec : {M : Type 1} → statement M
+chained_in_spec =
     tie.close
     (tie.spec
     invariant-loop
@@ -23,7 +23,7 @@ chained-in-spec =
     (λ c. search threads)
     (λ c. search threads)
     (λ c. search threads)
-    (λ c κs. c.before.before.before.chain-at.ensures.value)
+    (λ c κs. c.chain_at-least.ensures.value)
     (λ c. search threads)
     (λ c. search threads)
     (λ c. search threads)

@@ -6,14 +6,14 @@ use Rattle.repeats.proofs.Passes.{TrieLent, entering}
 use Rattle.repeats.proofs.entered.Statement.{statement}
 use Rattle.repeats.proofs.entered.Tie as tie
 
-abbrev invariant-loop : tie.invariant-loop
+abbrev invariant-loop : tie.invariant-loop-k
 invariant-loop text table trie₀ n best least₀ k₀ trie least k = (Pass (Sure 1) 6 own6 text table n best k least) × (TrieLent trie₀ trie)
 
-abbrev decreases-loop : tie.decreases-loop
+abbrev decreases-loop : tie.decreases-loop-k
 decreases-loop text table trie₀ n best least₀ k₀ trie least k = n - k
 
-pub entered-spec : {M : Type 1} → statement M
-entered-spec =
+pub entered_spec : {M : Type 1} → statement M
+entered_spec =
     tie.close
     (tie.spec
     invariant-loop

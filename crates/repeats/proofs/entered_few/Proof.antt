@@ -8,5 +8,5 @@ use Rattle.repeats.proofs.entered_few.Tie as tie
 entered-requires : tie.Need-entered-requires
 entered-requires c κs = (search ways, trie-room 20480 refl (omega arith) (omega arith))
 
-pub entered-few-spec : {M : Type 1} → statement M
-entered-few-spec = tie.close (tie.spec (λ c. search ways) entered-requires (λ c. search ways))
+pub entered_few_spec : {M : Type 1} → statement M
+entered_few_spec = tie.close (tie.spec (λ c. search ways) entered-requires (λ c. search ways))

@@ -8,5 +8,5 @@ use Rattle.repeats.proofs.entered_many.Tie as tie
 entered-requires : tie.Need-entered-requires
 entered-requires c κs = (search ways, trie-room 327680 refl (omega arith) (omega arith))
 
-pub entered-many-spec : {M : Type 1} → statement M
-entered-many-spec = tie.close (tie.spec (λ c. search ways) entered-requires (λ c. search ways))
+pub entered_many_spec : {M : Type 1} → statement M
+entered_many_spec = tie.close (tie.spec (λ c. search ways) entered-requires (λ c. search ways))

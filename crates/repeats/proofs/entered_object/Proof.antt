@@ -3,8 +3,8 @@ use Rattle.repeats.proofs.Rule6.{opens}
 use Rattle.repeats.proofs.entered_object.Statement.{statement}
 use Rattle.repeats.proofs.entered_object.Tie as tie
 
-pub entered-object-spec : {M : Type 1} → statement M
-entered-object-spec =
+pub entered_object_spec : {M : Type 1} → statement M
+entered_object_spec =
     tie.close
     (tie.spec
     (λ c κs. search opens)

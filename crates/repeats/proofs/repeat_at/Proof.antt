@@ -3,8 +3,8 @@ use Rattle.repeats.proofs.Rule6.{names}
 use Rattle.repeats.proofs.repeat_at.Statement.{statement}
 use Rattle.repeats.proofs.repeat_at.Tie as tie
 
-pub repeat-at-spec : {M : Type 1} → statement M
-repeat-at-spec =
+pub repeat_at_spec : {M : Type 1} → statement M
+repeat_at_spec =
     tie.close
     (tie.spec
     (λ c κs. search names)

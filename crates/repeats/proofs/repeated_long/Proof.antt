@@ -3,8 +3,8 @@ use borrow.Author.Rules.{rules}
 use Rattle.repeats.proofs.repeated_long.Statement.{statement}
 use Rattle.repeats.proofs.repeated_long.Tie as tie
 
-pub repeated-long-spec : {M : Type 1} → statement M
-repeated-long-spec =
+pub repeated_long_spec : {M : Type 1} → statement M
+repeated_long_spec =
     tie.close
     (tie.spec
     (λ c κs. search rules)

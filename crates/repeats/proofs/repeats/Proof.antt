@@ -5,26 +5,26 @@ use Rattle.repeats.proofs.Rule6.{Compares, compare-again, compare-apart, names}
 use Rattle.repeats.proofs.repeats.Statement.{statement}
 use Rattle.repeats.proofs.repeats.Tie as tie
 
-abbrev invariant-loop : tie.invariant-loop
+abbrev invariant-loop : tie.invariant-loop-j
 invariant-loop text table first k from to j₀ j = Compares text table first k j
 
-abbrev decreases-loop : tie.decreases-loop
+abbrev decreases-loop : tie.decreases-loop-j
 decreases-loop text table first k from to j₀ j = k - j
 
 -- the names do not begin apart and are not the same, or they begin apart
-loop-again : tie.Need-loop-preserved invariant-loop decreases-loop
+loop-again : tie.Need-loop-j-preserved invariant-loop decreases-loop
 loop-again c =
     ⊎_elim
     (λ w.
-    compare-again (search) (search) c.before.before.before.before.start2.ensures c.before.before.before.end2.ensures (search) (search)
-    w.1.ensures w.2.left c.next.ensures)
+    compare-again (search) (search) c.start-from2.ensures c.end-to2.ensures (search) (search)
+    w.1.ensures w.2.false c.next-j.ensures)
     (λ w.
-    compare-apart (search) (search) c.before.before.before.before.start2.ensures c.before.before.before.end2.ensures (search) (search)
-    c.before.before.apart.ensures w.left c.next.ensures)
-    c.before.if1.branch
+    compare-apart (search) (search) c.start-from2.ensures c.end-to2.ensures (search) (search)
+    c.apart.ensures w.false c.next-j.ensures)
+    c.if-not-apart.branch-raw
 
-pub repeats-spec : {M : Type 1} → statement M
-repeats-spec =
+pub repeats_spec : {M : Type 1} → statement M
+repeats_spec =
     tie.close
     (tie.spec
     invariant-loop

@@ -6,14 +6,14 @@ use Rattle.scalars.proofs.Rules.{lexes}
 use Rattle.scalars.proofs.skip_digits.Statement.{statement}
 use Rattle.scalars.proofs.skip_digits.Tie as tie
 
-abbrev invariant-loop : tie.invariant-loop
+abbrev invariant-loop : tie.invariant-loop-i
 invariant-loop text at i₀ i = Stays digital text at i
 
-abbrev decreases-loop : tie.decreases-loop
+abbrev decreases-loop : tie.decreases-loop-i
 decreases-loop text at i₀ i = length text - i
 
-pub skip-digits-spec : {M : Type 1} → statement M
-skip-digits-spec =
+pub skip_digits_spec : {M : Type 1} → statement M
+skip_digits_spec =
     tie.close
     (tie.spec
     invariant-loop

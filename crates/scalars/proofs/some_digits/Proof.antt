@@ -3,8 +3,8 @@ use Rattle.scalars.proofs.Rules.{lexes}
 use Rattle.scalars.proofs.some_digits.Statement.{statement}
 use Rattle.scalars.proofs.some_digits.Tie as tie
 
-pub some-digits-spec : {M : Type 1} → statement M
-some-digits-spec =
+pub some_digits_spec : {M : Type 1} → statement M
+some_digits_spec =
     tie.close
     (tie.spec
     (λ c. search lexes) (λ c. search lexes) (λ c κs. search lexes) (λ c. search lexes) (λ c. search lexes) (λ c κs. search lexes)

@@ -6,14 +6,14 @@ use Rattle.scalars.proofs.Rules.{lexes}
 use Rattle.scalars.proofs.word.Statement.{statement}
 use Rattle.scalars.proofs.word.Tie as tie
 
-abbrev invariant-loop : tie.invariant-loop
+abbrev invariant-loop : tie.invariant-loop-k
 invariant-loop text at word i₀ k₀ i k = (k ≤ length word) × Spells text word at k i
 
-abbrev decreases-loop : tie.decreases-loop
+abbrev decreases-loop : tie.decreases-loop-k
 decreases-loop text at word i₀ k₀ i k = length word - k
 
-pub word-spec : {M : Type 1} → statement M
-word-spec =
+pub word_spec : {M : Type 1} → statement M
+word_spec =
     tie.close
     (tie.spec
     invariant-loop

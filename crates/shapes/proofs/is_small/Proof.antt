@@ -3,5 +3,5 @@ use Rattle.shapes.proofs.Rules.{shapes}
 use Rattle.shapes.proofs.is_small.Statement.{statement}
 use Rattle.shapes.proofs.is_small.Tie as tie
 
-pub is-small-spec : {M : Type 1} → statement M
-is-small-spec = tie.close (tie.spec (λ c κs. search shapes) (λ c. search shapes) (λ c κs. search shapes) (λ c κs. search shapes) (λ c κs. search shapes) (λ c. search shapes))
+pub is_small_spec : {M : Type 1} → statement M
+is_small_spec = tie.close (tie.spec (λ c κs. search shapes) (λ c. search shapes) (λ c κs. search shapes) (λ c κs. search shapes) (λ c κs. search shapes) (λ c. search shapes))

@@ -3,5 +3,5 @@ use Rattle.shapes.proofs.Rules.{shapes}
 use Rattle.shapes.proofs.is_triple.Statement.{statement}
 use Rattle.shapes.proofs.is_triple.Tie as tie
 
-pub is-triple-spec : {M : Type 1} → statement M
-is-triple-spec = tie.close (tie.spec (λ c κs. search shapes) (λ c. search shapes) (λ c κs. search shapes) (λ c. search shapes) (λ c κs. search shapes) (λ c. search shapes))
+pub is_triple_spec : {M : Type 1} → statement M
+is_triple_spec = tie.close (tie.spec (λ c κs. search shapes) (λ c. search shapes) (λ c κs. search shapes) (λ c. search shapes) (λ c κs. search shapes) (λ c. search shapes))

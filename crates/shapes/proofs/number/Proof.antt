@@ -5,7 +5,7 @@ use Rattle.shapes.proofs.number.Statement.{statement}
 use Rattle.shapes.proofs.number.Tie as tie
 
 returns : tie.Need-returns
-returns c = number_is _ _ c.unless.ensures c.before.is_number.ensures
+returns c = number_is _ _ c.unless.ensures c.is_number.ensures
 
-pub number-spec : {M : Type 1} → statement M
-number-spec = tie.close (tie.spec (λ c κs. search shapes) (λ c κs. search shapes) returns)
+pub number_spec : {M : Type 1} → statement M
+number_spec = tie.close (tie.spec (λ c κs. search shapes) (λ c κs. search shapes) returns)

@@ -5,7 +5,7 @@ use Rattle.shapes.proofs.object.Statement.{statement}
 use Rattle.shapes.proofs.object.Tie as tie
 
 returns : tie.Need-returns
-returns c = object-is _ _ c.unless.ensures c.before.is-object.ensures
+returns c = object-is _ _ c.unless.ensures c.is_object.ensures
 
-pub object-spec : {M : Type 1} → statement M
-object-spec = tie.close (tie.spec (λ c κs. search shapes) (λ c κs. search shapes) returns)
+pub object_spec : {M : Type 1} → statement M
+object_spec = tie.close (tie.spec (λ c κs. search shapes) (λ c κs. search shapes) returns)

@@ -4,11 +4,11 @@ use Rattle.shapes.proofs.Rules.{shapes}
 use Rattle.shapes.proofs.pair_range.Statement.{statement}
 use Rattle.shapes.proofs.pair_range.Tie as tie
 
-returns-3 : tie.Need-returns-3
-returns-3 c = pair-out _ (search shapes) c.before.before.before.before.pair.ensures c.before.before.answer.given.1 c.lesser.ensures
+returns-3 : tie.Need-returns-in-Fault
+returns-3 c = pair-out _ (search shapes) c.pair-answer.ensures c.in-Fault.is c.lesser.ensures
 
-pub pair-range-spec : {M : Type 1} → statement M
-pair-range-spec =
+pub pair_range_spec : {M : Type 1} → statement M
+pair_range_spec =
     tie.close
     (tie.spec
     (λ c κs. search shapes)

@@ -4,15 +4,15 @@ use Rattle.trie.proofs.Rules.{Walking, walks}
 use Rattle.trie.proofs.walk_ahead.Statement.{statement}
 use Rattle.trie.proofs.walk_ahead.Tie as tie
 
-abbrev invariant-loop : tie.invariant-loop
+abbrev invariant-loop : tie.invariant-loop-b
 invariant-loop text trie₀ c₀ p₀ trie c p =
-    (Span text c.at c.end) × Walking trie₀ p₀.count p₀.initial (ahead text c₀) trie p.count p.initial (ahead text c)
+    (Span text c.at c.end) × Walking trie₀ p₀.count p₀.entry (ahead text c₀) trie p.count p.entry (ahead text c)
 
-abbrev decreases-loop : tie.decreases-loop
+abbrev decreases-loop : tie.decreases-loop-b
 decreases-loop text trie₀ c₀ p₀ trie c p = away c
 
-pub walk-ahead-spec : {M : Type 1} → statement M
-walk-ahead-spec =
+pub walk_ahead_spec : {M : Type 1} → statement M
+walk_ahead_spec =
     tie.close
     (tie.spec
     invariant-loop

@@ -5,12 +5,12 @@ use Rattle.types.proofs.Rules.{types}
 use Rattle.types.proofs.depth_of.Statement.{statement}
 use Rattle.types.proofs.depth_of.Tie as tie
 
-returns-2 : tie.Need-returns-2
+returns-2 : tie.Need-returns
 unfolding depth
 returns-2 c = refl
 
-pub depth-of-spec : {M : Type 1} → statement M
-depth-of-spec =
+pub depth_of_spec : {M : Type 1} → statement M
+depth_of_spec =
     tie.close
     (tie.spec
     (λ c. search types) (λ c. search types) (λ c. search types)

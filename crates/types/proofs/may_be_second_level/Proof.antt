@@ -3,8 +3,8 @@ use Rattle.types.proofs.Rules.{types}
 use Rattle.types.proofs.may_be_second_level.Statement.{statement}
 use Rattle.types.proofs.may_be_second_level.Tie as tie
 
-pub may-be-second-level-spec : {M : Type 1} → statement M
-may-be-second-level-spec =
+pub may_be_second_level_spec : {M : Type 1} → statement M
+may_be_second_level_spec =
     tie.close
     (tie.spec
     (λ c. search types) (λ c. search types) (λ c. search types) (λ c. search types) (λ c. search types) (λ c. search types)

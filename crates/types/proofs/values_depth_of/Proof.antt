@@ -5,12 +5,12 @@ use Rattle.types.proofs.Rules.{types}
 use Rattle.types.proofs.values_depth_of.Statement.{statement}
 use Rattle.types.proofs.values_depth_of.Tie as tie
 
-returns-2 : tie.Need-returns-2
+returns-2 : tie.Need-returns
 unfolding values_depth
 returns-2 c = refl
 
-pub values-depth-of-spec : {M : Type 1} → statement M
-values-depth-of-spec =
+pub values_depth_of_spec : {M : Type 1} → statement M
+values_depth_of_spec =
     tie.close
     (tie.spec
     (λ c. search types) (λ c. search types) (λ c. search types)

@@ -7,14 +7,14 @@ use Rattle.words.proofs.Rules.{words}
 use Rattle.words.proofs.code_in.Statement.{statement}
 use Rattle.words.proofs.code_in.Tie as tie
 
-abbrev invariant-loop : tie.invariant-loop
+abbrev invariant-loop : tie.invariant-loop-k
 invariant-loop text at end words ends from₀ k₀ from k = (Span text at end) × Scanning words ends (decode_at text at end) from k
 
-abbrev decreases-loop : tie.decreases-loop
+abbrev decreases-loop : tie.decreases-loop-k
 decreases-loop text at end words ends from₀ k₀ from k = length ends - k
 
-pub code-in-spec : {M : Type 1} → statement M
-code-in-spec =
+pub code_in_spec : {M : Type 1} → statement M
+code_in_spec =
     tie.close
     (tie.spec
     invariant-loop

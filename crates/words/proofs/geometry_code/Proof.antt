@@ -4,9 +4,9 @@ use Rattle.words.proofs.Rules.{words}
 use Rattle.words.proofs.geometry_code.Statement.{statement}
 use Rattle.words.proofs.geometry_code.Tie as tie
 
-pub geometry-code-spec : {M : Type 1} → statement M
+pub geometry_code_spec : {M : Type 1} → statement M
 unfolding geometry_words
-geometry-code-spec =
+geometry_code_spec =
     tie.close
     (tie.spec
     (λ c κs. search words) (λ c κs. search words) (λ c κs. search words) (λ c. search words) (λ c. search words) (λ c κs. search words) (λ c. search words))

@@ -5,13 +5,11 @@ use Rattle.words.proofs.Rules.{words}
 use Rattle.words.proofs.is_geometry_at.Statement.{statement}
 use Rattle.words.proofs.is_geometry_at.Tie as tie
 
-pub is-geometry-at-spec : {M : Type 1} → statement M
+pub is_geometry_at_spec : {M : Type 1} → statement M
 unfolding is_at geometry_words
-is-geometry-at-spec =
+is_geometry_at_spec =
     tie.close
     (tie.spec
-    (λ c. search words) (λ c κs. search words) (λ c. search words) (λ c κs. search words) (λ c. search words) (λ c κs. search words)
-    (λ c. search words) (λ c κs. search words) (λ c. search words) (λ c κs. search words) (λ c. search words) (λ c κs. search words)
-    (λ c. search words) (λ c κs. search words)
-    (λ c. search words) (λ c. search words) (λ c. search words) (λ c. search words) (λ c. search words) (λ c. search words)
-    (λ c. search words) (λ c. search words))
+    (λ c κs. search words) (λ c κs. search words) (λ c κs. search words) (λ c κs. search words) (λ c κs. search words)
+    (λ c κs. search words) (λ c κs. search words) (λ c. search words) (λ c. search words) (λ c. search words)
+    (λ c. search words) (λ c. search words) (λ c. search words) (λ c. search words) (λ c. search words))

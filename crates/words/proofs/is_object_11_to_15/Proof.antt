@@ -5,11 +5,10 @@ use Rattle.words.proofs.Rules.{words}
 use Rattle.words.proofs.is_object_11_to_15.Statement.{statement}
 use Rattle.words.proofs.is_object_11_to_15.Tie as tie
 
-pub is-object-11-to-15-spec : {M : Type 1} → statement M
+pub is_object_11_to_15_spec : {M : Type 1} → statement M
 unfolding is_at object_words
-is-object-11-to-15-spec =
+is_object_11_to_15_spec =
     tie.close
     (tie.spec
-    (λ c. search words) (λ c κs. search words) (λ c. search words) (λ c κs. search words) (λ c. search words) (λ c κs. search words)
-    (λ c. search words) (λ c κs. search words) (λ c. search words) (λ c κs. search words)
+    (λ c κs. search words) (λ c κs. search words) (λ c κs. search words) (λ c κs. search words) (λ c κs. search words)
     (λ c. search words) (λ c. search words) (λ c. search words) (λ c. search words) (λ c. search words) (λ c. search words))

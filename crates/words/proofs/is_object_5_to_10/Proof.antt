@@ -5,12 +5,11 @@ use Rattle.words.proofs.Rules.{words}
 use Rattle.words.proofs.is_object_5_to_10.Statement.{statement}
 use Rattle.words.proofs.is_object_5_to_10.Tie as tie
 
-pub is-object-5-to-10-spec : {M : Type 1} → statement M
+pub is_object_5_to_10_spec : {M : Type 1} → statement M
 unfolding is_at object_words
-is-object-5-to-10-spec =
+is_object_5_to_10_spec =
     tie.close
     (tie.spec
-    (λ c. search words) (λ c κs. search words) (λ c. search words) (λ c κs. search words) (λ c. search words) (λ c κs. search words)
-    (λ c. search words) (λ c κs. search words) (λ c. search words) (λ c κs. search words) (λ c. search words) (λ c κs. search words)
-    (λ c. search words) (λ c. search words) (λ c. search words) (λ c. search words) (λ c. search words) (λ c. search words)
-    (λ c. search words))
+    (λ c κs. search words) (λ c κs. search words) (λ c κs. search words) (λ c κs. search words) (λ c κs. search words)
+    (λ c κs. search words) (λ c. search words) (λ c. search words) (λ c. search words) (λ c. search words)
+    (λ c. search words) (λ c. search words) (λ c. search words))

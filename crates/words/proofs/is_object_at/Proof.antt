@@ -3,8 +3,8 @@ use Rattle.words.proofs.Rules.{words}
 use Rattle.words.proofs.is_object_at.Statement.{statement}
 use Rattle.words.proofs.is_object_at.Tie as tie
 
-pub is-object-at-spec : {M : Type 1} → statement M
-is-object-at-spec =
+pub is_object_at_spec : {M : Type 1} → statement M
+is_object_at_spec =
     tie.close
     (tie.spec
     (λ c κs. search words) (λ c κs. search words) (λ c κs. search words) (λ c κs. search words) (λ c κs. search words) (λ c κs. search words)

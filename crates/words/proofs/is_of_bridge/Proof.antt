@@ -5,11 +5,10 @@ use Rattle.words.proofs.Rules.{words}
 use Rattle.words.proofs.is_of_bridge.Statement.{statement}
 use Rattle.words.proofs.is_of_bridge.Tie as tie
 
-pub is-of-bridge-spec : {M : Type 1} → statement M
+pub is_of_bridge_spec : {M : Type 1} → statement M
 unfolding is_at object_words
-is-of-bridge-spec =
+is_of_bridge_spec =
     tie.close
     (tie.spec
-    (λ c. search words) (λ c κs. search words) (λ c. search words) (λ c κs. search words) (λ c. search words) (λ c κs. search words)
-    (λ c. search words) (λ c κs. search words) (λ c. search words) (λ c κs. search words)
+    (λ c κs. search words) (λ c κs. search words) (λ c κs. search words) (λ c κs. search words) (λ c κs. search words)
     (λ c. search words) (λ c. search words) (λ c. search words) (λ c. search words) (λ c. search words) (λ c. search words))

@@ -5,13 +5,11 @@ use Rattle.words.proofs.Rules.{words}
 use Rattle.words.proofs.is_of_building.Statement.{statement}
 use Rattle.words.proofs.is_of_building.Tie as tie
 
-pub is-of-building-spec : {M : Type 1} → statement M
+pub is_of_building_spec : {M : Type 1} → statement M
 unfolding is_at object_words
-is-of-building-spec =
+is_of_building_spec =
     tie.close
     (tie.spec
-    (λ c. search words) (λ c κs. search words) (λ c. search words) (λ c κs. search words) (λ c. search words) (λ c κs. search words)
-    (λ c. search words) (λ c κs. search words) (λ c. search words) (λ c κs. search words) (λ c. search words) (λ c κs. search words)
-    (λ c. search words) (λ c κs. search words)
-    (λ c. search words) (λ c. search words) (λ c. search words) (λ c. search words) (λ c. search words) (λ c. search words)
-    (λ c. search words) (λ c. search words))
+    (λ c κs. search words) (λ c κs. search words) (λ c κs. search words) (λ c κs. search words) (λ c κs. search words)
+    (λ c κs. search words) (λ c κs. search words) (λ c. search words) (λ c. search words) (λ c. search words)
+    (λ c. search words) (λ c. search words) (λ c. search words) (λ c. search words) (λ c. search words))

@@ -5,11 +5,10 @@ use Rattle.words.proofs.Rules.{words}
 use Rattle.words.proofs.is_of_tunnel.Statement.{statement}
 use Rattle.words.proofs.is_of_tunnel.Tie as tie
 
-pub is-of-tunnel-spec : {M : Type 1} → statement M
+pub is_of_tunnel_spec : {M : Type 1} → statement M
 unfolding is_at object_words
-is-of-tunnel-spec =
+is_of_tunnel_spec =
     tie.close
     (tie.spec
-    (λ c. search words) (λ c κs. search words) (λ c. search words) (λ c κs. search words) (λ c. search words) (λ c κs. search words)
-    (λ c. search words) (λ c κs. search words) (λ c. search words) (λ c κs. search words)
+    (λ c κs. search words) (λ c κs. search words) (λ c κs. search words) (λ c κs. search words) (λ c κs. search words)
     (λ c. search words) (λ c. search words) (λ c. search words) (λ c. search words) (λ c. search words) (λ c. search words))

@@ -5,12 +5,11 @@ use Rattle.words.proofs.Rules.{words}
 use Rattle.words.proofs.is_surface_0_to_5.Statement.{statement}
 use Rattle.words.proofs.is_surface_0_to_5.Tie as tie
 
-pub is-surface-0-to-5-spec : {M : Type 1} → statement M
+pub is_surface_0_to_5_spec : {M : Type 1} → statement M
 unfolding is_at surface_words
-is-surface-0-to-5-spec =
+is_surface_0_to_5_spec =
     tie.close
     (tie.spec
-    (λ c. search words) (λ c κs. search words) (λ c. search words) (λ c κs. search words) (λ c. search words) (λ c κs. search words)
-    (λ c. search words) (λ c κs. search words) (λ c. search words) (λ c κs. search words) (λ c. search words) (λ c κs. search words)
-    (λ c. search words) (λ c. search words) (λ c. search words) (λ c. search words) (λ c. search words) (λ c. search words)
-    (λ c. search words))
+    (λ c κs. search words) (λ c κs. search words) (λ c κs. search words) (λ c κs. search words) (λ c κs. search words)
+    (λ c κs. search words) (λ c. search words) (λ c. search words) (λ c. search words) (λ c. search words)
+    (λ c. search words) (λ c. search words) (λ c. search words))

@@ -5,12 +5,11 @@ use Rattle.words.proofs.Rules.{words}
 use Rattle.words.proofs.is_surface_6_to_11.Statement.{statement}
 use Rattle.words.proofs.is_surface_6_to_11.Tie as tie
 
-pub is-surface-6-to-11-spec : {M : Type 1} → statement M
+pub is_surface_6_to_11_spec : {M : Type 1} → statement M
 unfolding is_at surface_words
-is-surface-6-to-11-spec =
+is_surface_6_to_11_spec =
     tie.close
     (tie.spec
-    (λ c. search words) (λ c κs. search words) (λ c. search words) (λ c κs. search words) (λ c. search words) (λ c κs. search words)
-    (λ c. search words) (λ c κs. search words) (λ c. search words) (λ c κs. search words) (λ c. search words) (λ c κs. search words)
-    (λ c. search words) (λ c. search words) (λ c. search words) (λ c. search words) (λ c. search words) (λ c. search words)
-    (λ c. search words))
+    (λ c κs. search words) (λ c κs. search words) (λ c κs. search words) (λ c κs. search words) (λ c κs. search words)
+    (λ c κs. search words) (λ c. search words) (λ c. search words) (λ c. search words) (λ c. search words)
+    (λ c. search words) (λ c. search words) (λ c. search words))

@@ -4,9 +4,9 @@ use Rattle.words.proofs.Rules.{words}
 use Rattle.words.proofs.object_code.Statement.{statement}
 use Rattle.words.proofs.object_code.Tie as tie
 
-pub object-code-spec : {M : Type 1} → statement M
+pub object_code_spec : {M : Type 1} → statement M
 unfolding object_words
-object-code-spec =
+object_code_spec =
     tie.close
     (tie.spec
     (λ c κs. search words) (λ c κs. search words) (λ c κs. search words) (λ c. search words) (λ c. search words) (λ c κs. search words) (λ c. search words))

@@ -5,6 +5,7 @@ use Rattle.words.proofs.Rules.{words}
 use Rattle.words.proofs.object_code_in.Statement.{statement}
 use Rattle.words.proofs.object_code_in.Tie as tie
 
-pub object-code-in-spec : {M : Type 1} → statement M
+pub object_code_in_spec : {M : Type 1} → statement M
 unfolding in_order words_in spelled object_words
-object-code-in-spec = tie.close (tie.spec (λ c. search words) (λ c. search words) (λ c κs. search words) (λ c. search words))
+object_code_in_spec = tie.close (tie.spec
+    (λ c. search words) (λ c κs. search words) (λ c. search words))

@@ -4,9 +4,9 @@ use Rattle.words.proofs.Rules.{words}
 use Rattle.words.proofs.surface_code.Statement.{statement}
 use Rattle.words.proofs.surface_code.Tie as tie
 
-pub surface-code-spec : {M : Type 1} → statement M
+pub surface_code_spec : {M : Type 1} → statement M
 unfolding surface_words
-surface-code-spec =
+surface_code_spec =
     tie.close
     (tie.spec
     (λ c κs. search words) (λ c κs. search words) (λ c κs. search words) (λ c. search words) (λ c. search words) (λ c κs. search words) (λ c. search words))

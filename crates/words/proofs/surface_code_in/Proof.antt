@@ -5,6 +5,7 @@ use Rattle.words.proofs.Rules.{words}
 use Rattle.words.proofs.surface_code_in.Statement.{statement}
 use Rattle.words.proofs.surface_code_in.Tie as tie
 
-pub surface-code-in-spec : {M : Type 1} → statement M
+pub surface_code_in_spec : {M : Type 1} → statement M
 unfolding in_order words_in spelled surface_words
-surface-code-in-spec = tie.close (tie.spec (λ c. search words) (λ c. search words) (λ c κs. search words) (λ c. search words))
+surface_code_in_spec = tie.close (tie.spec
+    (λ c. search words) (λ c κs. search words) (λ c. search words))
