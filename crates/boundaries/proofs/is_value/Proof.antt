@@ -3,5 +3,5 @@ use Rattle.boundaries.proofs.Rules.{nested}
 use Rattle.boundaries.proofs.is_value.Statement.{statement}
 use Rattle.boundaries.proofs.is_value.Tie as tie
 
-pub is-value-spec : {M : Type 1} → statement M
-is-value-spec = tie.close (tie.spec (λ c κs. search nested) (λ c. search nested) (λ c κs. search nested) (λ c. search nested))
+pub is_value_spec : {M : Type 1} → statement M
+is_value_spec = tie.close (tie.spec (λ c κs. search nested) (λ c. search nested) (λ c κs. search nested) (λ c. search nested))

@@ -3,10 +3,10 @@ use Rattle.ids.proofs.Chains.{Filling, chains}
 use Rattle.ids.proofs.fill.Statement.{statement}
 use Rattle.ids.proofs.fill.Tie as tie
 
-abbrev invariant-loop : tie.invariant-loop
+abbrev invariant-loop : tie.invariant-loop-k
 invariant-loop text table offsets heads₀ nexts₀ k₀ heads nexts k = Filling text table offsets nexts₀ heads nexts k
 
-abbrev decreases-loop : tie.decreases-loop
+abbrev decreases-loop : tie.decreases-loop-k
 decreases-loop text table offsets heads₀ nexts₀ k₀ heads nexts k = k
 
 pub fill_spec : {M : Type 1} → statement M

@@ -5,23 +5,23 @@ use Rattle.ids.proofs.Chains.{Trailing, trail-inside, trail-few, chains}
 use Rattle.ids.proofs.number.Statement.{statement}
 use Rattle.ids.proofs.number.Tie as tie
 
-abbrev invariant-loop : tie.invariant-loop
+abbrev invariant-loop : tie.invariant-loop-e
 invariant-loop text table offsets heads nexts i c e₀ e = Trailing text table offsets heads nexts i e
 
-abbrev decreases-loop : tie.decreases-loop
+abbrev decreases-loop : tie.decreases-loop-e
 decreases-loop text table offsets heads nexts i c e₀ e = (1025 - e) % 1025
 
-mul-name : tie.Need-overflow-mul-name invariant-loop decreases-loop
-mul-name c = omega (arith, trail-few c.before.loop.invariant c.loop-test.true)
+mul-name : tie.Need-offset_bounds-offsets-k invariant-loop decreases-loop
+mul-name c = omega (arith, trail-few c.loop-e.invariant c.loop-e-test.true)
 
-read_name : tie.Need-shared-slice-read-name invariant-loop decreases-loop
-read_name c = trail-inside c.before.before.loop.invariant c.before.loop-test.true
+read_name : tie.Need-bounds-offsets-k invariant-loop decreases-loop
+read_name c = trail-inside c.loop-e.invariant c.loop-e-test.true
 
-mul-wide-2 : tie.Need-overflow-mul-wide-2 invariant-loop decreases-loop
-mul-wide-2 c = omega (arith, trail-few c.before.before.before.before.loop.invariant c.before.before.before.loop-test.true)
+mul-wide-2 : tie.Need-offset_bounds-nexts-k invariant-loop decreases-loop
+mul-wide-2 c = omega (arith, trail-few c.loop-e.invariant c.loop-e-test.true)
 
-pub number-spec : {M : Type 1} → statement M
-number-spec =
+pub number_spec : {M : Type 1} → statement M
+number_spec =
     tie.close
     (tie.spec
     invariant-loop

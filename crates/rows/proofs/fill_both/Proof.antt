@@ -4,11 +4,11 @@ use Rattle.rows.proofs.Rules.{whole}
 use Rattle.rows.proofs.fill_both.Statement.{statement}
 use Rattle.rows.proofs.fill_both.Tie as tie
 
-fill-rows-requires : tie.Need-fill-rows-requires
+fill-rows-requires : tie.Need-fill_rows-requires
 unfolding ascii
 fill-rows-requires c κs = search whole
 
-fill-rows-requires-2 : tie.Need-fill-rows-requires-2
+fill-rows-requires-2 : tie.Need-fill_rows-requires-2
 unfolding ascii
 fill-rows-requires-2 c κs = search whole
 
@@ -16,8 +16,8 @@ returns : tie.Need-returns
 unfolding ascii
 returns c = search whole
 
-pub fill-both-spec : {M : Type 1} → statement M
-fill-both-spec =
+pub fill_both_spec : {M : Type 1} → statement M
+fill_both_spec =
     tie.close
     (tie.spec
     (λ c. search whole)

@@ -3,8 +3,8 @@ use Rattle.rows.proofs.Rules.{listing}
 use Rattle.rows.proofs.fill_found.Statement.{statement}
 use Rattle.rows.proofs.fill_found.Tie as tie
 
-pub fill-found-spec : {M : Type 1} → statement M
-fill-found-spec =
+pub fill_found_spec : {M : Type 1} → statement M
+fill_found_spec =
     tie.close
     (tie.spec
     (λ c. search listing)

@@ -3,5 +3,5 @@ use Rattle.rows.proofs.Rules.{linking}
 use Rattle.rows.proofs.link_number.Statement.{statement}
 use Rattle.rows.proofs.link_number.Tie as tie
 
-pub link-number-spec : {M : Type 1} → statement M
-link-number-spec = tie.close (tie.spec (λ c κs. search linking) (λ c. search linking) (λ c κs. search linking) (λ c. search linking))
+pub link_number_spec : {M : Type 1} → statement M
+link_number_spec = tie.close (tie.spec (λ c κs. search linking) (λ c. search linking) (λ c κs. search linking) (λ c. search linking))

@@ -6,10 +6,10 @@ use Rattle.writer.proofs.Rules.{writes}
 use Rattle.writer.proofs.clear.Statement.{statement}
 use Rattle.writer.proofs.clear.Tie as tie
 
-abbrev invariant-loop : tie.invariant-loop
+abbrev invariant-loop : tie.invariant-loop-i
 invariant-loop sheet₀ i₀ sheet i = Cleared sheet₀ sheet i
 
-abbrev decreases-loop : tie.decreases-loop
+abbrev decreases-loop : tie.decreases-loop-i
 decreases-loop sheet₀ i₀ sheet i = length sheet₀ - i
 
 pub clear_spec : {M : Type 1} → statement M

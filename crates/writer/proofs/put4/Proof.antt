@@ -3,8 +3,8 @@ use Rattle.writer.proofs.Rules.{writes}
 use Rattle.writer.proofs.put4.Statement.{statement}
 use Rattle.writer.proofs.put4.Tie as tie
 
-pub put4-spec : {M : Type 1} → statement M
-put4-spec =
+pub put4_spec : {M : Type 1} → statement M
+put4_spec =
     tie.close
     (tie.spec
     (λ c κs. search writes)

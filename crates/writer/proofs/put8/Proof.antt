@@ -3,8 +3,8 @@ use Rattle.writer.proofs.Rules.{writes}
 use Rattle.writer.proofs.put8.Statement.{statement}
 use Rattle.writer.proofs.put8.Tie as tie
 
-pub put8-spec : {M : Type 1} → statement M
-put8-spec =
+pub put8_spec : {M : Type 1} → statement M
+put8_spec =
     tie.close
     (tie.spec
     (λ c κs. search writes)

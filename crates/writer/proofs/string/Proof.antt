@@ -3,8 +3,8 @@ use Rattle.writer.proofs.Rules.{writes}
 use Rattle.writer.proofs.string.Statement.{statement}
 use Rattle.writer.proofs.string.Tie as tie
 
-pub string-spec : {M : Type 1} → statement M
-string-spec =
+pub string_spec : {M : Type 1} → statement M
+string_spec =
     tie.close
     (tie.spec
     (λ c κs. search writes)
