@@ -56,7 +56,7 @@ NoLater r p s q = (r < s) ⊎ ((r ≡ s) × (p ≤ q))
 
 -- ---- the least of a list
 
-least-low : (b : ℕ) {f : ℕ} {fs : List ℕ} → Memᴰ f fs → least b fs ≤ f
+least-low : {f : ℕ} (b : ℕ) {fs : List ℕ} → Memᴰ f fs → least b fs ≤ f
 unfolding least
 least-low b (Memᴰ.head {x = g} {xs = fs} e) = omega (arith, least-le (min b g) fs)
 least-low b (Memᴰ.tail {x = g} m) = least-low (min b g) m

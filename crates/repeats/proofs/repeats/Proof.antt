@@ -17,10 +17,10 @@ loop-again c =
     ⊎_elim
     (λ w.
     compare-again (search) (search) c.start-from2.ensures c.end-to2.ensures (search) (search)
-    w.1.ensures w.2.false c.next-j.ensures)
+    w.same_string.ensures w.if-same_string.false c.next-j.ensures)
     (λ w.
     compare-apart (search) (search) c.start-from2.ensures c.end-to2.ensures (search) (search)
-    c.apart.ensures w.false c.next-j.ensures)
+    c.apart.ensures (not_from_true _ w.if-not-apart.false) c.next-j.ensures)
     c.if-not-apart.branch-raw
 
 pub repeats_spec : {M : Type 1} → statement M
