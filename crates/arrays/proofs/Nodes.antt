@@ -110,8 +110,8 @@ module _ {x t : List ℕ} {i : ℕ} where
             let l = rw w at (pair-at v s) in
             let j : record { m = n; e = k } ≡ decimal_of v = cc in
             let f = decimal-fits (decimal_of v) (pair_read v (h.holds v s)).1 in
-            let y' : b ≡ twos (decimal_of v).m = y ∙ ap twos (ap (λ z. to_z w64 (of_z w64 z)) (ap (λ q. q.m) j) ∙ to_z-of_z (sfits_of (omega (arith, f.0)))) in
-            let z' : c ≡ twos (decimal_of v).e = z ∙ ap twos (ap (λ z. to_z w64 (of_z w64 z)) (ap (λ q. q.e) j) ∙ to_z-of_z (sfits_of (omega (arith, f.1)))) in
+            let y' : b ≡ twos (decimal_of v).m = y ∙ ap twos (ap (λ z. to_z w64 (of_z w64 z)) (ap (λ q. q.m) j) ∙ to_z-of_z {w = w64} (sfits_of (omega (arith, f.0)))) in
+            let z' : c ≡ twos (decimal_of v).e = z ∙ ap twos (ap (λ z. to_z w64 (of_z w64 z)) (ap (λ q. q.e) j) ∙ to_z-of_z {w = w64} (sfits_of (omega (arith, f.1)))) in
             rw (← wrote-signed 8 (decimal_of v).m (omega arith) f.0, ← wrote-signed 2 (decimal_of v).e (omega arith) f.1, ← y', ← z') (then u g)
 
   -- a coordinate

@@ -17,7 +17,6 @@ has_parent_spec =
     tie.close
     (tie.spec
     (λ c. parent-some _ c.if-count-ne0.true)
-    (λ c. search linking)
     (λ c κs. search linking)
     (λ c κs. search linking)
     (λ c κs. search linking)

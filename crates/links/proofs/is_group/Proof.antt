@@ -15,8 +15,4 @@ pub is_group_spec : {M : Type 1} → statement M
 is_group_spec =
     tie.close
     (tie.spec
-    (λ c. search linking)
-    (λ c κs. search linking)
-    (λ c. search linking)
-    (λ c κs. search linking)
-    returns)
+    (λ c κs. search linking) (λ c κs. search linking) returns)

@@ -20,10 +20,4 @@ pub mark_both_spec : {M : Type 1} → statement M
 mark_both_spec =
     tie.close
     (tie.spec
-    (λ c. search towns)
-    mark-all-requires
-    (λ c. search towns)
-    mark-all-requires-2
-    (λ c. search towns)
-    (λ c. search towns)
-    returns)
+    mark-all-requires mark-all-requires-2 (λ c. search towns) (λ c. search towns) returns)

@@ -16,8 +16,4 @@ pub open_above_spec : {M : Type 1} → statement M
 open_above_spec =
     tie.close
     (tie.spec
-    (λ c κs. search linking)
-    (λ c. search linking)
-    (λ c. search linking)
-    open-member-requires
-    returns-2)
+    (λ c κs. search linking) (λ c. search linking) open-member-requires returns-2)

@@ -16,8 +16,4 @@ pub open_kin_spec : {M : Type 1} → statement M
 open_kin_spec =
     tie.close
     (tie.spec
-    (λ c κs. search opens)
-    (λ c. search opens)
-    (λ c. search opens)
-    open-member-requires
-    returns-2)
+    (λ c κs. search opens) (λ c. search opens) open-member-requires returns-2)

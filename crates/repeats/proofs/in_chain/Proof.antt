@@ -1,5 +1,6 @@
 -- `repeats::in_chain` meets its contract.
 use mathlib.Core.Logic.{⊎_elim}
+use Rattle.std.proofs.lemmas.Bool.{not_from_true}
 use Rattle.repeats.proofs.Links.{Follows, follow-again, follow-apart, follows}
 use Rattle.repeats.proofs.in_chain.Statement.{statement}
 use Rattle.repeats.proofs.in_chain.Tie as tie

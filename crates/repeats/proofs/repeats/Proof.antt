@@ -1,6 +1,7 @@
 -- `repeats::repeats` meets its contract.
 use Prim.Native.Nat.{◌-◌}
 use mathlib.Core.Logic.{⊎_elim}
+use Rattle.std.proofs.lemmas.Bool.{not_from_true}
 use Rattle.repeats.proofs.Rule6.{Compares, compare-again, compare-apart, names}
 use Rattle.repeats.proofs.repeats.Statement.{statement}
 use Rattle.repeats.proofs.repeats.Tie as tie
