@@ -7,15 +7,14 @@ use Rattle.nodes.specs.Access.{elements}
 use Rattle.nodes.specs.Says.{Node, Gives}
 use Rattle.arrays.specs.Fits.{Pair, Coordinate, Index, Value, Elements, Triple, Leaves}
 use Rattle.arrays.specs.Says.{Holds, Ends, Wrote}
+use Rattle.arrays.proofs.Nodes.{Nesting}
 use Rattle.arrays.proofs.+boundary.Given as goal
 
--- proposed from what the function passes where it calls itself
 abbrev pub decreases-boundary : goal.decreases-boundary
 decreases-boundary l = l.depth
 
 abbrev pub invariant-loop-k : goal.invariant-loop-k
-invariant-loop-k l = ?
+invariant-loop-k l = Nesting l.depth l.text l.table l.i l.n l.k l.initial.sheet l.sheet l.at l.first l.o l.count
 
--- proposed from the loop's first test
 abbrev pub decreases-loop-k : goal.decreases-loop-k
 decreases-loop-k l = l.n - l.k
