@@ -30,7 +30,7 @@ use Rattle.utf8.specs.Bytes.{le}
 use Rattle.model.specs.Code.{signed, concat_map}
 use Rattle.model.specs.Model.{lay_three, lay_decimal, lay_nest, lay_value, lay_values}
 use Rattle.model.specs.Read.{natural, decimal_of, integer_of, index_of, value_of, three_of, nest_of}
-use Rattle.model.specs.Weigh.{decimal-fits}
+use Rattle.model.proofs.Weigh.{decimal-fits}
 use Rattle.sheets.specs.Numbers.{integer-read}
 use Rattle.writer.specs.Writes.{Writes, Skips, twos}
 use Rattle.writer.specs.Laws.{then, as_bytes, numbered, wrote-signed}

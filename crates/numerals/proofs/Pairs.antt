@@ -18,7 +18,7 @@ use borrow.Author.Tests.{eq-eqb, ne_eqb, le-leb, lt-leb, lt-ltb, le-ltb, ltb-tru
 use borrow.Author.Rules.{rules}
 use Rattle.utf8.specs.Ascii.{is_digit}
 use Rattle.numerals.specs.Numerals.{Decimal, Trimmed, more, trimmed, is_point, is_letter, digits, natural, negative, signed, after, mantissa, places, exponent, scaled, decimal, in_range, pair_of}
-use Rattle.numerals.specs.Laws.{digit_low, after-no, after-yes, natAbs-signed}
+use Rattle.numerals.proofs.Laws.{digit_low, after-no, after-yes, natAbs-signed}
 use Rattle.numerals.specs.Reading.{pair_in, saturated, IsWhole, digit, taken, sums, nothing, IsRead, Reads, Reaches, power_of}
 use Rattle.numerals.specs.declared.Numeral.TheVariants.{Pair, Out}
 use Rattle.numerals.specs.declared.Whole.{Whole}

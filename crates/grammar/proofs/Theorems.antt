@@ -12,7 +12,7 @@ use Rattle.grammar.specs.Accepts.{to-run, from-run}
 use Rattle.grammar.specs.Derived.{derived}
 use Rattle.grammar.specs.Parsed.{parsed}
 use Rattle.grammar.specs.Reaches as reaches
-use Rattle.grammar.specs.Ordered as order
+use Rattle.grammar.proofs.Ordered as order
 
 -- the machine reads a text with at most l levels, as the tree v, exactly if the grammar derives it with at most l levels and the tree v
 pub reads-text : (l : ℕ) (x : List ℕ) (v : Json) → (run l x want [] 0 x ≡ reads v) ↔ Text l x v

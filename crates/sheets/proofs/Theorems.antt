@@ -12,17 +12,18 @@ use Rattle.nodes.specs.Access.{members}
 use Rattle.everywhere.specs.Everywhere.{strings}
 use Rattle.verdict.specs.Verdict.{Verdict, accepted, verdict}
 use Rattle.verdict.specs.Verdict as judge
-use Rattle.verdict.specs.Exact.{BreaksNone, Least, accepts, accepted-exactly, refused-exactly, ends-inside}
+use Rattle.verdict.specs.Exact.{BreaksNone, Least}
+use Rattle.verdict.proofs.Exact.{accepts, accepted-exactly, refused-exactly, ends-inside}
 use Rattle.model.specs.Model.{sheet_of}
 use Rattle.model.specs.Good.{GoodModel}
 use Rattle.model.specs.Read.{get, object_of, model_of}
-use Rattle.model.specs.Demand.{same-sheet-same-model, IsPrefix, neither-begins}
+use Rattle.model.proofs.Demand.{same-sheet-same-model, IsPrefix, neither-begins}
 use Rattle.model.specs.Alike.{Alike, alike-same-model}
-use Rattle.model.specs.AlikeLaws.{alike_self, alike-sym}
+use Rattle.model.proofs.AlikeLaws.{alike_self, alike-sym}
 use Rattle.sheets.specs.Laid.{model_of_text, sheet_of_text, laid, refused, fitted, answer, room_after}
 use Rattle.sheets.specs.Clear.{objects-members}
-use Rattle.sheets.specs.Characters.{WholeTexts, whole-strings, whole-model}
-use Rattle.sheets.specs.Answers.{good-text, distinct-names, object-count, of-laid, holds-sheet, begins-sheet, holds-zeros, room-length, same_answer, same-room, too_long, does-not-fit}
+use Rattle.sheets.proofs.Characters.{WholeTexts, whole-strings, whole-model}
+use Rattle.sheets.proofs.Answers.{good-text, distinct-names, object-count, of-laid, holds-sheet, begins-sheet, holds-zeros, room-length, same_answer, same-room, too_long, does-not-fit}
 
 -- an accepted text's model is as docs/RULES.md asks (rules 10, 12, 13 and 15), and its sheet is shorter than 2^32 bytes
 pub good : (x : List ℕ) (n : ℕ) → verdict x ≡ accepted n → GoodModel (model_of_text x)

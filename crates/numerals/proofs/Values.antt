@@ -7,7 +7,7 @@ use Rattle.std.proofs.Math.Nat.{one-le-pow, eq_of_mul-eq-mul_right}
 use Rattle.std.proofs.Math.IntN.{pos-ne-negsuc, +ℤ_assoc, +ℤ_invl, +ℤ-neg_ℤ_cancel}
 use Rattle.utf8.specs.Laws.{clash}
 use Rattle.numerals.specs.Numerals.{Decimal, Trimmed, trimmed, none_yet, natural, digits, mantissa, places, exponent, negative, signed, scaled, decimal, in_range, pair_of}
-use Rattle.numerals.specs.Laws.{Canonical, canonical, meaning, natAbs-signed, zero-signed, times-signed}
+use Rattle.numerals.proofs.Laws.{Canonical, canonical, meaning, natAbs-signed, zero-signed, times-signed}
 
 -- a numeral is its digits before the exponent, as one number with its sign, times ten to the exponent less the places after the point (RFC 8259, section 6)
 unfoldable pub as_written : List ℕ → Decimal

@@ -21,7 +21,7 @@ use Rattle.strings.specs.Strings.{decode}
 use Rattle.json_text.specs.Tree.{Json, null, bool, num, str, arr, obj, Items, no_items, ◌▸◌, Members, empty, member}
 use Rattle.nodes.specs.Access.{Member, listed, pairs, elements, members, name_of, text_of, first_named, find}
 use Rattle.model.specs.Read.{get, or_null, integer_of, index_of, value_of, three_of, nest_of, surface_named, surface_of, semantics_of, geometry_of, object_of, model_of}
-use Rattle.model.specs.Weigh.{length-le, length-signed, weight, weight-cons, weight-append}
+use Rattle.model.proofs.Weigh.{length-le, length-signed, weight, weight-cons, weight-append}
 
 -- how many bytes a value takes in a text, at the least: a bracket or a comma stands before each element and each member, and a name has two quotes and a colon
 unfoldable mutual

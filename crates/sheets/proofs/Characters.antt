@@ -12,19 +12,19 @@ use Rattle.utf8.specs.Utf8.Whole.{nil}
 use Rattle.utf8.specs.Laws.{nil-left, nil-right}
 use Rattle.utf8.specs.Splits.{whole-text, whole-between}
 use Rattle.strings.specs.Strings.{decode, unpaired_from}
-use Rattle.strings.specs.Characters.{whole-decode}
+use Rattle.strings.proofs.Characters.{whole-decode}
 use Rattle.words.specs.Words.{code_of, geometry_words}
 use Rattle.json_text.specs.Tree.{Json, Items, ◌▸◌, Members, Name}
 use Rattle.json_text.specs.Tree as tree
 use Rattle.json_text.specs.Grammar.{Text}
-use Rattle.grammar.specs.Theorems.{read-text}
+use Rattle.grammar.proofs.Theorems.{read-text}
 use Rattle.nodes.specs.Access.{Member, listed, elements, pairs, members, name_of, text_of, first_named, find}
 use Rattle.nodes.specs.Faults.{fault}
 use Rattle.everywhere.specs.Everywhere.{strings, strings_in, strings_of, unpaired_in, rule5, rule6}
 use Rattle.rules.specs.Schema.{city_json}
 use Rattle.rules.specs.Links.{link_faults}
 use Rattle.verdict.specs.Verdict.{accepted, faults, verdict}
-use Rattle.verdict.specs.Exact.{accepted-clean}
+use Rattle.verdict.proofs.Exact.{accepted-clean}
 use Rattle.model.specs.Code.{All}
 use Rattle.model.specs.Lists.{one_of, all_map, all_both, all-parts, all_of_map}
 use Rattle.model.specs.Model.{Surface, added, Semantics, Object, Model}
@@ -33,7 +33,7 @@ use Rattle.model.specs.Read.{or_null, get, surface_named, surface_of, semantics_
 use Rattle.json_text.specs.Machine.{tree_of}
 use Rattle.sheets.specs.Laid.{model_of_text}
 use Rattle.sheets.specs.Quoted.{InQuotes, chars-end, chars-escaped, text-quoted}
-use Rattle.sheets.specs.Answers.{tree_is}
+use Rattle.sheets.proofs.Answers.{tree_is}
 
 -- ---- what is whole
 
