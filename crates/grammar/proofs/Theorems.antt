@@ -13,6 +13,7 @@ use Rattle.grammar.specs.Derived.{derived}
 use Rattle.grammar.specs.Parsed.{parsed}
 use Rattle.grammar.specs.Reaches as reaches
 use Rattle.grammar.proofs.Ordered as order
+use Rattle.grammar.specs.Theorems.{Stopped}
 
 -- the machine reads a text with at most l levels, as the tree v, exactly if the grammar derives it with at most l levels and the tree v
 pub reads-text : (l : ℕ) (x : List ℕ) (v : Json) → (run l x want [] 0 x ≡ reads v) ↔ Text l x v
@@ -30,10 +31,6 @@ one-tree l x v w d e = let z : reads v ≡ reads w = sym ((reads-text l x v).1 d
 -- which lies in order within the text
 pub ordered : (l : ℕ) (x : List ℕ) (v : Json) → Text l x v → (p e : ℕ) × Spans v p e × (e ≤ length x)
 ordered = order.ordered
-
--- the machine stops at n: the text is bad there, or opens a level too many there
-abbrev pub Stopped : List ℕ → ℕ → Type 0
-Stopped x n = (read x ≡ bad n) ⊎ (read x ≡ too_deep n)
 
 -- where it stops, the bytes before begin some text of the grammar with at most 32 levels, and with one byte more they begin none
 pub stops : (x : List ℕ) (n : ℕ) → Stopped x n → (n ≤ length x) × Begins 32 (take n x) × (n < length x → Begins 32 (take (n + 1) x) → ⊥)

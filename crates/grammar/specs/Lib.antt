@@ -8,3 +8,4 @@ pub mod Parsed
 pub mod Endings
 pub mod Alike
 pub mod Reaches
+pub mod Theorems

@@ -8,3 +8,4 @@ pub mod Good
 pub mod Fits
 pub mod Numbers
 pub mod Alike
+pub mod Demand

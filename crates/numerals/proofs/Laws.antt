@@ -8,6 +8,7 @@ use mathlib.Core.List.{List, [], ◌∷◌, ◌++◌, append-nil}
 use Rattle.utf8.specs.Ascii.{is_digit}
 use Rattle.utf8.specs.Laws.{clash}
 use Rattle.numerals.specs.Numerals.{Decimal, Trimmed, more, trimmed, none_yet, natural, digits, is_point, is_letter, is_integer, integer, before, after, mantissa, places, exponent, negative, signed, scaled, decimal, times_ten, whole_of}
+use Rattle.numerals.specs.Laws.{Canonical}
 
 -- ---- the digits write m times ten to the zeros
 
@@ -27,10 +28,6 @@ pub meaning : (ds : List ℕ) → natural 0 ds ≡ (trimmed none_yet ds).m * 10 
 meaning ds = meaning-after none_yet ds
 
 -- ---- the form of a pair
-
--- zero with no power, or a number that is no multiple of ten
-abbrev pub Canonical : Decimal → Type 0
-Canonical d = ((d.m ≡ pos 0) × (d.e ≡ pos 0)) ⊎ (nat_abs d.m % 10 ≡ 0 → ⊥)
 
 -- a number that is zero or no multiple of ten
 abbrev Trim : ℕ → Type 0

@@ -34,33 +34,9 @@ use Rattle.json_text.specs.Machine.{tree_of}
 use Rattle.sheets.specs.Laid.{model_of_text}
 use Rattle.sheets.specs.Quoted.{InQuotes, chars-end, chars-escaped, text-quoted}
 use Rattle.sheets.proofs.Answers.{tree_is}
+use Rattle.sheets.specs.Characters.{WholeName, WholeSurface, WholeSemantics, WholeObject, WholeTexts}
 
 -- ---- what is whole
-
--- a string or a name stands for whole characters
-abbrev pub WholeName : Name → Type 0
-WholeName s = Whole (decode s.raw)
-
--- the added name of a surface, if it has one
-abbrev pub WholeSurface : Surface → Type 0
-WholeSurface (model.listed code) = Unit {0}
-WholeSurface (added name) = Whole name
-
--- the added names of a geometry's surfaces, if it has semantics
-abbrev pub WholeSemantics : {code : ℕ} → Option (Semantics code) → Type 0
-WholeSemantics option.none = Unit {0}
-WholeSemantics (some s) = All WholeSurface s.surfaces
-
--- the ID of an object, the IDs that it links to, and the added names of its surfaces
-pub record WholeObject (o : Object (List ℕ)) : Type 0 where
-  pub id : Whole o.id
-  pub children : All Whole o.children
-  pub parents : All Whole o.parents
-  pub names : All (λ g. WholeSemantics g.semantics) o.geometries
-
--- all texts of a model
-abbrev pub WholeTexts : Model → Type 0
-WholeTexts m = All WholeObject m.objects
 
 -- ---- the strings of a text
 

@@ -17,13 +17,16 @@ use Rattle.verdict.proofs.Exact.{accepts, accepted-exactly, refused-exactly, end
 use Rattle.model.specs.Model.{sheet_of}
 use Rattle.model.specs.Good.{GoodModel}
 use Rattle.model.specs.Read.{get, object_of, model_of}
-use Rattle.model.proofs.Demand.{same-sheet-same-model, IsPrefix, neither-begins}
+use Rattle.model.specs.Demand.{IsPrefix}
+use Rattle.model.proofs.Demand.{same-sheet-same-model, neither-begins}
 use Rattle.model.specs.Alike.{Alike, alike-same-model}
 use Rattle.model.proofs.AlikeLaws.{alike_self, alike-sym}
 use Rattle.sheets.specs.Laid.{model_of_text, sheet_of_text, laid, refused, fitted, answer, room_after}
 use Rattle.sheets.specs.Clear.{objects-members}
-use Rattle.sheets.proofs.Characters.{WholeTexts, whole-strings, whole-model}
+use Rattle.sheets.specs.Characters.{WholeTexts}
+use Rattle.sheets.proofs.Characters.{whole-strings, whole-model}
 use Rattle.sheets.proofs.Answers.{good-text, distinct-names, object-count, of-laid, holds-sheet, begins-sheet, holds-zeros, room-length, same_answer, same-room, too_long, does-not-fit}
+use Rattle.sheets.specs.Theorems.{NoRoom}
 
 -- an accepted text's model is as docs/RULES.md asks (rules 10, 12, 13 and 15), and its sheet is shorter than 2^32 bytes
 pub good : (x : List ℕ) (n : ℕ) → verdict x ≡ accepted n → GoodModel (model_of_text x)
@@ -93,10 +96,6 @@ laid-exactly x r l n = (
       let objects : k ≡ n = count x k e ∙ sym c in
       rw (e, le-leb (length (sheet_of_text x)) r (omega arith)) (λ i. laid (size i) (objects i))),
 )
-
--- the text breaks no rule and its sheet is longer than the room: 18 at 0, to 0
-abbrev pub NoRoom : List ℕ → ℕ → ℕ → ℕ → ℕ → Type 0
-NoRoom x r s p e = (s ≡ 18) × (p ≡ 0) × (e ≡ 0) × BreaksNone x × (r < length (sheet_of_text x))
 
 -- and is refused exactly by the lowest broken rule at its earliest place, with the end of that place, or by 18 at 0 where only the room is too short
 pub refused-lowest : (x : List ℕ) (r s p e : ℕ) → (answer x r ≡ refused s p e) ↔ (Least x s p e ⊎ NoRoom x r s p e)

@@ -5,3 +5,5 @@ pub mod Numbers
 pub mod Short
 pub mod Faultless
 pub mod Quoted
+pub mod Characters
+pub mod Theorems

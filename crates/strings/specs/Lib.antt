@@ -3,3 +3,4 @@ pub mod Strings
 pub mod Spans
 pub mod Parts
 pub mod Laws
+pub mod Characters

@@ -11,6 +11,7 @@ use Rattle.utf8.specs.Laws.{below_or_not, both_left, both_right, never, Form, to
 use Rattle.utf8.specs.Laws.Form.{one, two, three, four}
 use Rattle.utf8.specs.Finite.{each_below}
 use Rattle.utf8.specs.Splits.{character-below, character-above}
+use Rattle.utf8.specs.RowLaws.{Character}
 
 -- ---- a match, byte by byte
 
@@ -143,10 +144,6 @@ only-match j k [] m n = by (row k) (no-empty k m.there) (matches-fits (row k) []
 only-match j k (b ∷ s) m n = only_row k b s m.there (match-opens k b s m) j n
 
 -- ---- what matches a row begins with a character
-
--- the text begins with a character of n bytes
-abbrev pub Character : ℕ → List ℕ → Type 0
-Character n text = (c : ℕ) × Begins c text × (n ≡ length (encode c))
 
 of-bytes : (c : ℕ) (x s : List ℕ) → is_character c ≡ true → encode c ≡ x → Character (length x) (x ++ s)
 of-bytes c x s h e = (c, record { character = h; rest = s; bytes = ap (λ (y : List ℕ). y ++ s) (sym e) }, ap length (sym e))

@@ -8,3 +8,4 @@ pub mod Laws
 pub mod Meaning
 pub mod Splits
 pub mod Finite
+pub mod RowLaws
