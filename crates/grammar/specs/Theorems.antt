@@ -12,7 +12,6 @@ use Rattle.grammar.specs.Accepts.{to-run, from-run}
 use Rattle.grammar.specs.Derived.{derived}
 use Rattle.grammar.specs.Parsed.{parsed}
 use Rattle.grammar.specs.Reaches as reaches
-use Rattle.grammar.proofs.Ordered as order
 
 -- the machine stops at n: the text is bad there, or opens a level too many there
 abbrev pub Stopped : List ℕ → ℕ → Type 0

@@ -118,14 +118,14 @@ find-size : (n : String) (j : Json) → found (find n j) < size j
 unfolding find
 find-size n j = omega (arith, first-size (ascii n) (members j), members-size j)
 
-orNull-size : (o : Option Json) (n : ℕ) → 1 ≤ n → found o ≤ n → size (or_null o) ≤ n
+or_null-size : (o : Option Json) (n : ℕ) → 1 ≤ n → found o ≤ n → size (or_null o) ≤ n
 unfolding or_null found size
-orNull-size option.none n h k = h
-orNull-size (some j) n h k = k
+or_null-size option.none n h k = h
+or_null-size (some j) n h k = k
 
 pub get-size : (n : String) (j : Json) → size (get n j) ≤ size j
 unfolding get
-get-size n j = orNull-size (find n j) (size j) (size-pos j) (omega (arith, find-size n j))
+get-size n j = or_null-size (find n j) (size j) (size-pos j) (omega (arith, find-size n j))
 
 -- ---- what stands in a value is no larger
 

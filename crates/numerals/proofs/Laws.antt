@@ -69,16 +69,16 @@ trim t (zero ∷ ds) h l = trim (more t zero) ds h l.1
 trim t (suc d ∷ ds) h l = trim (more t (suc d)) ds (inr (λ e. omega (arith, shift t.m t.zeros, l.0))) l.1
 
 -- a sign leaves the absolute value
-pub natAbs-signed : (neg : Bool) (n : ℕ) → nat_abs (signed neg n) ≡ n
+pub nat_abs-signed : (neg : Bool) (n : ℕ) → nat_abs (signed neg n) ≡ n
 unfolding signed
-natAbs-signed true zero = refl
-natAbs-signed true (suc n) = refl
-natAbs-signed false n = refl
+nat_abs-signed true zero = refl
+nat_abs-signed true (suc n) = refl
+nat_abs-signed false n = refl
 
 canonical-scaled : (neg : Bool) (t : Trimmed) (e : ℤ) → Trim t.m → Canonical (scaled neg t e)
 unfolding scaled
 canonical-scaled neg t e (inl q) = inl (rw q (refl, refl))
-canonical-scaled neg t e (inr q) = inr (rw (ne_eqb t.m 0 (λ z. q (rw z)), natAbs-signed neg t.m) q)
+canonical-scaled neg t e (inr q) = inr (rw (ne_eqb t.m 0 (λ z. q (rw z)), nat_abs-signed neg t.m) q)
 
 -- every pair is so, in range or not
 pub canonical : (raw : List ℕ) → Canonical (decimal raw)

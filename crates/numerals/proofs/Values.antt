@@ -8,7 +8,7 @@ use Rattle.std.proofs.Math.IntN.{pos-ne-negsuc, +ℤ_assoc, +ℤ_invl, +ℤ-neg_
 use Rattle.utf8.specs.Laws.{clash}
 use Rattle.numerals.specs.Numerals.{Decimal, Trimmed, trimmed, none_yet, natural, digits, mantissa, places, exponent, negative, signed, scaled, decimal, in_range, pair_of}
 use Rattle.numerals.specs.Laws.{Canonical}
-use Rattle.numerals.proofs.Laws.{canonical, meaning, natAbs-signed, zero-signed, times-signed}
+use Rattle.numerals.proofs.Laws.{canonical, meaning, nat_abs-signed, zero-signed, times-signed}
 use Rattle.numerals.specs.Values.{as_written, SameValue}
 
 -- ---- integers times a power of ten
@@ -23,10 +23,10 @@ times-times (negsuc n) a b = times-signed true (suc n * a) b ∙ ap (λ i. neg_�
 times_power : (z : ℤ) (i t : ℕ) → z *ℤ pos (10 ^ (i + t)) ≡ z *ℤ pos (10 ^ i) *ℤ pos (10 ^ t)
 times_power z i t = ap (λ c. z *ℤ pos c) (pow-add 10 i t) ∙ sym (times-times z (10 ^ i) (10 ^ t))
 
-natAbs-times : (z : ℤ) (c : ℕ) → nat_abs (z *ℤ pos c) ≡ nat_abs z * c
+nat_abs-times : (z : ℤ) (c : ℕ) → nat_abs (z *ℤ pos c) ≡ nat_abs z * c
 unfolding signed
-natAbs-times (pos n) c = refl
-natAbs-times (negsuc n) c = natAbs-signed true (suc n * c)
+nat_abs-times (pos n) c = refl
+nat_abs-times (negsuc n) c = nat_abs-signed true (suc n * c)
 
 -- a factor that is not zero is cancelled
 module _ (c : ℕ) (h : 0 < c) where
@@ -42,7 +42,7 @@ module _ (c : ℕ) (h : 0 < c) where
   cancel (pos m) (negsuc n) e = absurd (not_neg (m * c) n e)
   cancel (negsuc m) (pos n) e = absurd (not_neg (n * c) m (sym e))
   cancel (negsuc m) (negsuc n) e =
-      let d = sym (natAbs-times (negsuc m) c) ∙ ap nat_abs e ∙ natAbs-times (negsuc n) c in
+      let d = sym (nat_abs-times (negsuc m) c) ∙ ap nat_abs e ∙ nat_abs-times (negsuc n) c in
       ap negsuc (omega (arith, eq_of_mul-eq-mul_right c h (suc m) (suc n) d))
 
 -- ten to any power is not zero
@@ -163,7 +163,7 @@ one-pair a b (inr f) (inr g) s = pair_path factors ends
   where
     powers : s.i ≡ s.j
     powers =
-        let h = sym (natAbs-times a.m (10 ^ s.i)) ∙ ap nat_abs s.same ∙ natAbs-times b.m (10 ^ s.j) in
+        let h = sym (nat_abs-times a.m (10 ^ s.i)) ∙ ap nat_abs s.same ∙ nat_abs-times b.m (10 ^ s.j) in
         one_power (nat_abs a.m) (nat_abs b.m) s.i s.j f g h
 
     factors : a.m ≡ b.m

@@ -8,8 +8,6 @@ use Rattle.std.proofs.Math.Nat.{add-sub_cancel_left}
 use Rattle.std.proofs.Math.ListN.{length}
 use Rattle.utf8.specs.Ascii.{ascii, is_digit}
 use Rattle.numerals.specs.Numerals.{Decimal, before, after, is_point, is_letter, digits, natural, negative, signed, integer, mantissa, places, exponent}
-use Rattle.numerals.proofs.Laws.{Below10, Lacks, before-past, after-past}
-use Rattle.numerals.proofs.Laws.Lacks.{lacks-nil, lacks-more}
 use Rattle.numerals.specs.Values.{as_written}
 
 -- one digit or more, each as its value

@@ -8,7 +8,6 @@ use Rattle.std.proofs.Math.IntN.{pos-ne-negsuc, +ℤ_assoc, +ℤ_invl, +ℤ-neg_
 use Rattle.utf8.specs.Laws.{clash}
 use Rattle.numerals.specs.Numerals.{Decimal, Trimmed, trimmed, none_yet, natural, digits, mantissa, places, exponent, negative, signed, scaled, decimal, in_range, pair_of}
 use Rattle.numerals.specs.Laws.{Canonical}
-use Rattle.numerals.proofs.Laws.{canonical, meaning, natAbs-signed, zero-signed, times-signed}
 
 -- a numeral is its digits before the exponent, as one number with its sign, times ten to the exponent less the places after the point (RFC 8259, section 6)
 unfoldable pub as_written : List ℕ → Decimal

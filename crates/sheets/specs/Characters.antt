@@ -33,7 +33,6 @@ use Rattle.model.specs.Read.{or_null, get, surface_named, surface_of, semantics_
 use Rattle.json_text.specs.Machine.{tree_of}
 use Rattle.sheets.specs.Laid.{model_of_text}
 use Rattle.sheets.specs.Quoted.{InQuotes, chars-end, chars-escaped, text-quoted}
-use Rattle.sheets.proofs.Answers.{tree_is}
 
 -- a string or a name stands for whole characters
 abbrev pub WholeName : Name → Type 0

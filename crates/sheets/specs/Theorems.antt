@@ -24,8 +24,6 @@ use Rattle.model.proofs.AlikeLaws.{alike_self, alike-sym}
 use Rattle.sheets.specs.Laid.{model_of_text, sheet_of_text, laid, refused, fitted, answer, room_after}
 use Rattle.sheets.specs.Clear.{objects-members}
 use Rattle.sheets.specs.Characters.{WholeTexts}
-use Rattle.sheets.proofs.Characters.{whole-strings, whole-model}
-use Rattle.sheets.proofs.Answers.{good-text, distinct-names, object-count, of-laid, holds-sheet, begins-sheet, holds-zeros, room-length, same_answer, same-room, too_long, does-not-fit}
 
 -- the text breaks no rule and its sheet is longer than the room: 18 at 0, to 0
 abbrev pub NoRoom : List ℕ → ℕ → ℕ → ℕ → ℕ → Type 0
