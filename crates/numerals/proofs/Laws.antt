@@ -8,7 +8,7 @@ use mathlib.Core.List.{List, [], ◌∷◌, ◌++◌, append-nil}
 use Rattle.utf8.specs.Ascii.{is_digit}
 use Rattle.utf8.specs.Laws.{clash}
 use Rattle.numerals.specs.Numerals.{Decimal, Trimmed, more, trimmed, none_yet, natural, digits, is_point, is_letter, is_integer, integer, before, after, mantissa, places, exponent, negative, signed, scaled, decimal, times_ten, whole_of}
-use Rattle.numerals.specs.Laws.{Canonical}
+use Rattle.numerals.specs.Laws.{Canonical, Below10}
 
 -- ---- the digits write m times ten to the zeros
 
@@ -32,11 +32,6 @@ meaning ds = meaning-after none_yet ds
 -- a number that is zero or no multiple of ten
 abbrev Trim : ℕ → Type 0
 Trim m = (m ≡ 0) ⊎ (m % 10 ≡ 0 → ⊥)
-
--- a list of digits' values
-abbrev pub Below10 : List ℕ → Type 0
-Below10 [] = Unit {0}
-Below10 (d ∷ ds) = (d < 10) × Below10 ds
 
 -- the bounds of a digit
 digit-bounds : (b : ℕ) (x y : Bool) → leb 48 b ≡ x → leb b 57 ≡ y → x && y ≡ true → (48 ≤ b) × (b - 48 < 10)

@@ -8,7 +8,8 @@ use Rattle.std.proofs.Math.Nat.{add-sub_cancel_left}
 use Rattle.std.proofs.Math.ListN.{length}
 use Rattle.utf8.specs.Ascii.{ascii, is_digit}
 use Rattle.numerals.specs.Numerals.{Decimal, before, after, is_point, is_letter, digits, natural, negative, signed, integer, mantissa, places, exponent}
-use Rattle.numerals.proofs.Laws.{Below10, Lacks, before-past, after-past}
+use Rattle.numerals.specs.Laws.{Below10}
+use Rattle.numerals.proofs.Laws.{Lacks, before-past, after-past}
 use Rattle.numerals.proofs.Laws.Lacks.{lacks-nil, lacks-more}
 use Rattle.numerals.specs.Values.{as_written}
 use Rattle.numerals.specs.Parts.{Digits, Fraction, Sign, Exponent, Parts, values_of, digit_bytes, minus_bytes, fraction_bytes, sign_bytes, exponent_bytes, bytes_of, fraction_values, is_minus, exponent_value, worth, ExponentDigits, Sound, no_fraction, point, minus, plus, no_sign, no-exponent, power}

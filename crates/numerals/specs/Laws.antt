@@ -12,3 +12,8 @@ use Rattle.numerals.specs.Numerals.{Decimal, Trimmed, more, trimmed, none_yet, n
 -- zero with no power, or a number that is no multiple of ten
 abbrev pub Canonical : Decimal → Type 0
 Canonical d = ((d.m ≡ pos 0) × (d.e ≡ pos 0)) ⊎ (nat_abs d.m % 10 ≡ 0 → ⊥)
+
+-- a list of digits' values
+abbrev pub Below10 : List ℕ → Type 0
+Below10 [] = Unit {0}
+Below10 (d ∷ ds) = (d < 10) × Below10 ds

@@ -7,6 +7,7 @@ use Rattle.std.proofs.Math.Bool.{true, false}
 use Rattle.std.proofs.Math.Nat.{add-sub_cancel_left}
 use Rattle.std.proofs.Math.ListN.{length}
 use Rattle.utf8.specs.Ascii.{ascii, is_digit}
+use Rattle.numerals.specs.Laws.{Below10}
 use Rattle.numerals.specs.Numerals.{Decimal, before, after, is_point, is_letter, digits, natural, negative, signed, integer, mantissa, places, exponent}
 use Rattle.numerals.specs.Values.{as_written}
 

@@ -1,6 +1,29 @@
 -- That the verdict is the lowest broken rule at its earliest place, with its end, and that a text is accepted exactly if it breaks no rule:
 -- theorems on specs/Exact.antt.
-
+use Rattle.std.specs.Prelude.{ℕ, ◌+◌, ◌*◌, ◌/◌, ◌%◌, ◌≤◌, ◌<◌, min, ◌≡◌, refl, cond, ◌⊎◌, ◌↔◌, length, take, ltb}
+use native.Mathlib.Omega.{arith}
+use Rattle.std.proofs.Math.Decide.{dec_lt}
+use Rattle.std.proofs.Common.{sym, ap, ◌∙◌, lt-ltb, le-ltb}
+use mathlib.Core.List.Memᴰ
+use mathlib.Core.List.{List, [], ◌∷◌, Memᴰ}
+use Rattle.std.proofs.Math.Logic.{inl, inr}
+use Rattle.utf8.specs.Utf8.{whole_length}
+use Rattle.json_text.specs.Tree.{Json}
+use Rattle.json_text.specs.Machine.{Outcome, reads, bad, too_deep, read}
+use Rattle.json_text.specs.Grammar.{Text, Begins}
+use Rattle.grammar.specs.Theorems.{Stopped}
+use Rattle.grammar.proofs.Theorems.{read-text, one-tree, ordered, stops, stops-exactly, bad-never, deep-deeper}
+use Rattle.grammar.specs.Reaches.{shorter, begun}
+use Rattle.nodes.specs.Faults.{fault, rule_of, place_in, least, no_fault}
+use Rattle.nodes.specs.Laws.{least-le}
+use Rattle.fields.specs.Fields.{objects_of}
+use Rattle.model.specs.Code.{All}
+use Rattle.model.specs.Lists.{one_of}
+use Rattle.everywhere.specs.Parts.{parts}
+use Rattle.verdict.specs.Ends.{ends_at}
+use Rattle.verdict.specs.EndLaws.{Alone, alone-end, alone-within}
+use Rattle.verdict.specs.Verdict.{Verdict, accepted, refused, faults, end_of_fault, given, judged, parsed, verdict}
+use Rattle.verdict.specs.Places.{Small, Placed, FaultPlace, within, single, faults-small, faults-stand}
 use Rattle.verdict.specs.Exact.{Longest, Breaks, too_long, not-utf8, not-json, incomplete, too-deep, in_tree, Ends, itself, part, BreaksNone, NoLater, Clean, Least}
 
 -- ---- the least of a list

@@ -24,6 +24,7 @@ use Rattle.verdict.specs.Ends.{ends_at}
 use Rattle.verdict.specs.EndLaws.{Alone, alone-end, alone-within}
 use Rattle.verdict.specs.Verdict.{Verdict, accepted, refused, faults, end_of_fault, given, judged, parsed, verdict}
 use Rattle.verdict.specs.Places.{Small, Placed, FaultPlace, within, single, faults-small, faults-stand}
+
 -- rules 3 and 4: "let n be the longest prefix that begins some JSON text and never has more than 32 levels open"
 pub record Longest (x : List ℕ) (n : ℕ) : Type 0 where
   pub inside : n ≤ length x

@@ -6,17 +6,17 @@ use Rattle.geometry.proofs.body.Statement.{statement}
 use Rattle.geometry.proofs.body.Tie as tie
 
 semantics-requires : tie.Need-semantics-requires
-semantics-requires c κs = (search outlines, search (outlines, own-sound _ (search outlines) c.before.boundary.ensures))
+semantics-requires c κs = (search outlines, search (outlines, own-sound _ (search outlines) c.boundary-own.ensures))
 
 returns : tie.Need-returns
 unfolding ascii
 returns c =
-    body_is _ _ c.before.before.before.before.member.ensures c.before.before.before.need.ensures (search outlines) c.before.before.boundary.ensures
-    c.before.lesser.ensures c.semantics.ensures
+    body_is _ _ c.member-outline.ensures c.need-a.ensures (search outlines) c.boundary-own.ensures
+    c.lesser-b.ensures c.semantics.ensures
 
-pub body-spec : {M : Type 1} → statement M
-body-spec =
+pub body_spec : {M : Type 1} → statement M
+body_spec =
     tie.close
     (tie.spec
-    (λ c. search outlines) (λ c κs. search outlines) (λ c κs. search outlines) (λ c κs. search outlines) (λ c κs. search outlines) semantics-requires
-    returns)
+    (λ c κs. search outlines) (λ c κs. search outlines) (λ c κs. search outlines) (λ c κs. search outlines)
+    semantics-requires returns)

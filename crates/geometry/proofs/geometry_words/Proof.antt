@@ -4,7 +4,7 @@ use Rattle.geometry.proofs.Lines.{lines}
 use Rattle.geometry.proofs.geometry_words.Statement.{statement}
 use Rattle.geometry.proofs.geometry_words.Tie as tie
 
-need-lod-requires : tie.Need-need-lod-requires
+need-lod-requires : tie.Need-need_lod-b-requires
 unfolding ascii
 need-lod-requires c κs = search lines
 
@@ -16,8 +16,8 @@ returns : tie.Need-returns
 unfolding ascii
 returns c = search lines depth 12
 
-pub geometry-words-spec : {M : Type 1} → statement M
-geometry-words-spec =
+pub geometry_words_spec : {M : Type 1} → statement M
+geometry_words_spec =
     tie.close
     (tie.spec
-    (λ c. search lines) (λ c κs. search lines) (λ c κs. search lines) need-lod-requires (λ c κs. search lines) lod-requires returns)
+    (λ c κs. search lines) (λ c κs. search lines) need-lod-requires (λ c κs. search lines) lod-requires returns)

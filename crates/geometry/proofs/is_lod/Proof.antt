@@ -6,7 +6,7 @@ use Rattle.geometry.proofs.is_lod.Statement.{statement}
 use Rattle.geometry.proofs.is_lod.Tie as tie
 
 returns : tie.Need-returns
-returns c = string-text (search strings) is_lod c.before.before.text-from.ensures c.before.text-to.ensures c.is-lod.ensures
+returns c = string-text (search strings) is_lod c.text_from.ensures c.text_to.ensures c.is_lod.ensures
 
-pub is-lod-spec : {M : Type 1} → statement M
-is-lod-spec = tie.close (tie.spec (λ c κs. search strings) (λ c κs. search strings) (λ c κs. search strings) returns)
+pub is_lod_spec : {M : Type 1} → statement M
+is_lod_spec = tie.close (tie.spec (λ c κs. search strings) (λ c κs. search strings) (λ c κs. search strings) returns)

@@ -6,18 +6,18 @@ use Rattle.geometry.proofs.Strings.{strings}
 use Rattle.geometry.proofs.is_surface_type.Statement.{statement}
 use Rattle.geometry.proofs.is_surface_type.Tie as tie
 
-returns : tie.Need-returns
+returns : tie.Need-returns-then-surface_code-ne0
 returns c =
-    string-text (search strings) is_surface_type c.before.before.before.text-from.ensures c.before.before.text-to.ensures
-    (surface-coded _ c.before.surface-code.ensures c.if1.true)
+    string-text (search strings) is_surface_type c.text_from-from.ensures c.text_to-to.ensures
+    (surface-coded _ c.surface_code.ensures c.if-surface_code-ne0.true)
 
-returns-2 : tie.Need-returns-2
+returns-2 : tie.Need-returns
 returns-2 c =
-    string-text (search strings) is_surface_type c.before.before.before.before.text-from.ensures c.before.before.before.text-to.ensures
-    (surface-added _ c.before.before.surface-code.ensures c.before.if1.false c.is-added-name.ensures)
+    string-text (search strings) is_surface_type c.text_from-from.ensures c.text_to-to.ensures
+    (surface-added _ c.surface_code.ensures c.if-surface_code-ne0.false c.is_added_name.ensures)
 
-pub is-surface-type-spec : {M : Type 1} → statement M
-is-surface-type-spec =
+pub is_surface_type_spec : {M : Type 1} → statement M
+is_surface_type_spec =
     tie.close
     (tie.spec
     (λ c κs. search strings) (λ c κs. search strings) (λ c κs. search strings) returns (λ c κs. search strings) returns-2)

@@ -4,13 +4,13 @@ use Rattle.geometry.proofs.Strings.{strings}
 use Rattle.geometry.proofs.lod_at.Statement.{statement}
 use Rattle.geometry.proofs.lod_at.Tie as tie
 
-returns : tie.Need-returns
+returns : tie.Need-returns-then-not-is_string
 unfolding schema.lod
 returns c = search strings
 
-returns-2 : tie.Need-returns-2
+returns-2 : tie.Need-returns
 unfolding schema.lod
 returns-2 c = search strings
 
-pub lod-at-spec : {M : Type 1} → statement M
-lod-at-spec = tie.close (tie.spec (λ c κs. search strings) (λ c κs. search strings) returns (λ c κs. search strings) (λ c κs. search strings) returns-2)
+pub lod_at_spec : {M : Type 1} → statement M
+lod_at_spec = tie.close (tie.spec (λ c κs. search strings) (λ c κs. search strings) returns (λ c κs. search strings) (λ c κs. search strings) returns-2)

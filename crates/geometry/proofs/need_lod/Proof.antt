@@ -5,13 +5,14 @@ use Rattle.geometry.proofs.GeometryLaws.{geometric}
 use Rattle.geometry.proofs.need_lod.Statement.{statement}
 use Rattle.geometry.proofs.need_lod.Tie as tie
 
-returns : tie.Need-returns
+returns : tie.Need-returns-then-found_word
 unfolding is ascii
 returns c = search geometric
 
-returns-2 : tie.Need-returns-2
+returns-2 : tie.Need-returns
 unfolding is ascii
 returns-2 c = search geometric
 
-pub need-lod-spec : {M : Type 1} → statement M
-need-lod-spec = tie.close (tie.spec (λ c. search geometric) (λ c κs. search geometric) returns (λ c κs. search geometric) returns-2)
+pub need_lod_spec : {M : Type 1} → statement M
+need_lod_spec = tie.close (tie.spec
+    (λ c κs. search geometric) returns (λ c κs. search geometric) returns-2)

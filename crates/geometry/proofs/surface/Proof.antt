@@ -8,5 +8,5 @@ returns : tie.Need-returns
 unfolding surface_parts together
 returns c = surface-is (search lines)
 
-pub surface-spec : {M : Type 1} → statement M
-surface-spec = tie.close (tie.spec (λ c κs. search lines) (λ c κs. search lines) returns)
+pub surface_spec : {M : Type 1} → statement M
+surface_spec = tie.close (tie.spec (λ c κs. search lines) (λ c κs. search lines) returns)

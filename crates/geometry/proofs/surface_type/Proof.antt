@@ -4,17 +4,17 @@ use Rattle.geometry.proofs.Lines.{lines}
 use Rattle.geometry.proofs.surface_type.Statement.{statement}
 use Rattle.geometry.proofs.surface_type.Tie as tie
 
-returns : tie.Need-returns
+returns : tie.Need-returns-in_default
 unfolding ascii
 returns c = search lines
 
-returns-2 : tie.Need-returns-2
+returns-2 : tie.Need-returns
 unfolding ascii
 returns-2 c = search lines
 
-pub surface-type-spec : {M : Type 1} → statement M
-surface-type-spec =
+pub surface_type_spec : {M : Type 1} → statement M
+surface_type_spec =
     tie.close
     (tie.spec
-    (λ c. search lines) (λ c κs. search lines) (λ c κs. search lines) (λ c. search lines) (λ c. search lines) returns (λ c κs. search lines)
+    (λ c κs. search lines) (λ c κs. search lines) (λ c. search lines) (λ c. search lines) returns (λ c κs. search lines)
     returns-2)

@@ -4,17 +4,17 @@ use Rattle.geometry.proofs.Lines.{lines}
 use Rattle.geometry.proofs.values.Statement.{statement}
 use Rattle.geometry.proofs.values.Tie as tie
 
-returns : tie.Need-returns
+returns : tie.Need-returns-in_default
 unfolding ascii
 returns c = record { is = λ o f. search lines }
 
-returns-2 : tie.Need-returns-2
+returns-2 : tie.Need-returns
 unfolding ascii
-returns-2 c = record { is = λ o f. search (lines, c.values-at.ensures.is o f) }
+returns-2 c = record { is = λ o f. search (lines, c.values_at.ensures.is o f) }
 
-pub values-spec : {M : Type 1} → statement M
-values-spec =
+pub values_spec : {M : Type 1} → statement M
+values_spec =
     tie.close
     (tie.spec
-    (λ c. search lines) (λ c κs. search lines) (λ c κs. search lines) (λ c. search lines) (λ c. search lines) returns (λ c κs. search lines)
+    (λ c κs. search lines) (λ c κs. search lines) (λ c. search lines) (λ c. search lines) returns (λ c κs. search lines)
     returns-2)

@@ -6,7 +6,7 @@ use Rattle.geometry.proofs.values_at.Tie as tie
 
 returns : tie.Need-returns
 unfolding schema.values
-returns c = record { is = λ o f. search (lines, c.over-outline.ensures.is o f) }
+returns c = record { is = λ o f. search (lines, c.over_outline.ensures.is o f) }
 
-pub values-at-spec : {M : Type 1} → statement M
-values-at-spec = tie.close (tie.spec (λ c κs. search lines) (λ c κs. search lines) returns)
+pub values_at_spec : {M : Type 1} → statement M
+values_at_spec = tie.close (tie.spec (λ c κs. search lines) (λ c κs. search lines) returns)
