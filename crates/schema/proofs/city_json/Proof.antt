@@ -10,8 +10,8 @@ returns : tie.Need-returns
 unfolding ascii word root_parts together
 returns c = root_is (search lines depth 12)
 
-pub city-json-spec : {M : Type 1} → statement M
-city-json-spec =
+pub city_json_spec : {M : Type 1} → statement M
+city_json_spec =
     tie.close
     (tie.spec
     (λ c κs. search lines) (λ c. search lines) (λ c. search lines) (λ c κs. search lines) (λ c. search lines) (λ c. search lines)

@@ -9,8 +9,8 @@ returns : tie.Need-returns
 unfolding ascii object_parts together
 returns c = search (lines, city-object-is) depth 12
 
-pub city-object-of-spec : {M : Type 1} → statement M
-city-object-of-spec =
+pub city_object_of_spec : {M : Type 1} → statement M
+city_object_of_spec =
     tie.close
     (tie.spec
     (λ c κs. search lines) (λ c κs. search lines) (λ c. search lines) (λ c κs. search lines) (λ c κs. search lines) (λ c κs. search lines)

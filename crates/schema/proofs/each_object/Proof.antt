@@ -6,17 +6,17 @@ use Rattle.geometry.proofs.Lines.{lines}
 use Rattle.schema.proofs.each_object.Statement.{statement}
 use Rattle.schema.proofs.each_object.Tie as tie
 
-abbrev invariant-loop : tie.invariant-loop
+abbrev invariant-loop : tie.invariant-loop-k
 invariant-loop text table i vertices best n least₀ k₀ least k = MemberPass (city_object vertices) text table i best n k least
 
-abbrev decreases-loop : tie.decreases-loop
+abbrev decreases-loop : tie.decreases-loop-k
 decreases-loop text table i vertices best n least₀ k₀ least k = n - k
 
 returns : tie.Need-returns invariant-loop decreases-loop
-returns c = members-done c.before.loop.invariant c.loop-test.false
+returns c = members-done c.loop-k.invariant c.loop-k-test.false
 
-pub each-object-spec : {M : Type 1} → statement M
-each-object-spec =
+pub each_object_spec : {M : Type 1} → statement M
+each_object_spec =
     tie.close
     (tie.spec
     invariant-loop decreases-loop (λ c κs. search lines) (λ c. search lines) (λ c. search lines) (λ c. search lines) (λ c κs. search lines) (λ c. search lines)

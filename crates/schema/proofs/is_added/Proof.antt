@@ -6,7 +6,7 @@ use Rattle.schema.proofs.is_added.Statement.{statement}
 use Rattle.schema.proofs.is_added.Tie as tie
 
 returns : tie.Need-returns
-returns c = string-text (search strings) is_added c.before.before.text-from.ensures c.before.text-to.ensures c.is-added.ensures
+returns c = string-text (search strings) is_added c.text_from.ensures c.text_to.ensures c.is_added.ensures
 
-pub is-added-spec : {M : Type 1} → statement M
-is-added-spec = tie.close (tie.spec (λ c κs. search strings) (λ c κs. search strings) (λ c κs. search strings) returns)
+pub is_added_spec : {M : Type 1} → statement M
+is_added_spec = tie.close (tie.spec (λ c κs. search strings) (λ c κs. search strings) (λ c κs. search strings) returns)

@@ -3,8 +3,8 @@ use Rattle.schema.proofs.Types.{typed}
 use Rattle.schema.proofs.object_type_at.Statement.{statement}
 use Rattle.schema.proofs.object_type_at.Tie as tie
 
-pub object-type-at-spec : {M : Type 1} → statement M
-object-type-at-spec =
+pub object_type_at_spec : {M : Type 1} → statement M
+object_type_at_spec =
     tie.close
     (tie.spec
     (λ c κs. search typed) (λ c κs. search typed) (λ c. search typed) (λ c. search typed) (λ c κs. search typed) (λ c κs. search typed)

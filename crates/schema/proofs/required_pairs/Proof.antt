@@ -3,8 +3,8 @@ use Rattle.schema.proofs.Types.{numbers}
 use Rattle.schema.proofs.required_pairs.Statement.{statement}
 use Rattle.schema.proofs.required_pairs.Tie as tie
 
-pub required-pairs-spec : {M : Type 1} → statement M
-required-pairs-spec =
+pub required_pairs_spec : {M : Type 1} → statement M
+required_pairs_spec =
     tie.close
     (tie.spec
     (λ c κs. search numbers) (λ c κs. search numbers) (λ c. search numbers) (λ c. search numbers) (λ c. search numbers) (λ c κs. search numbers)

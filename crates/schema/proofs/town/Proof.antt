@@ -13,5 +13,5 @@ returns : tie.Need-returns
 unfolding ascii
 returns c = search (lines, town-is)
 
-pub town-spec : {M : Type 1} → statement M
-town-spec = tie.close (tie.spec (λ c. search lines) (λ c κs. search lines) (λ c κs. search lines) (λ c κs. search lines) vertices-requires returns)
+pub town_spec : {M : Type 1} → statement M
+town_spec = tie.close (tie.spec (λ c. search lines) (λ c κs. search lines) (λ c κs. search lines) (λ c κs. search lines) vertices-requires returns)
