@@ -6,13 +6,13 @@
 ghost use Rattle.io.specs.Counts.{IsPrefixLen};
 
 use anyhow::{Result, anyhow};
-use std::io::{self, Read, Write};
+use std::io::{Read, Write};
 
 // How many bytes were read, and why no more could be, if that failed.
 #[derive(Drop)]
 struct Input {
     size: usize,
-    end: io::Result<()>,
+    end: std::io::Result<()>,
 }
 
 // Reads until the room is full or the input ends.
@@ -39,10 +39,10 @@ fn read(from: &mut impl Read, room: &mut [u8]) -> Input
 }
 
 // Prints the line of a text.
-fn print(rt: &impl Print, text: &[u8]) -> io::Result<()> {
+fn print(rt: &impl Print, text: &[u8]) -> std::io::Result<()> {
     let mut line = [0u8; 80];
     let n = listing::list(text, &mut line);
-    io::writer(rt).write_all(&line[..n])
+    std::io::writer(rt).write_all(&line[..n])
 }
 
 // A text of 65,536 bytes is too long already, so that no more has to be read.
