@@ -75,7 +75,8 @@ pub fn is_name(text: &str) -> bool {
 pub fn crates() -> Vec<String> {
     let list = fs::read_to_string(root().join("crates.txt")).expect("the crates");
     let lines = list.lines().filter(|line| !line.starts_with('#'));
-    lines.filter_map(|line| Some(line.split_once(':')?.0.to_string())).collect()
+    // A static library's line has a word after the name.
+    lines.filter_map(|line| Some(line.split_once([' ', ':'])?.0.to_string())).collect()
 }
 
 /// The text of a folder's files, or nothing where it is missing.
