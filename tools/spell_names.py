@@ -49,7 +49,13 @@ withTransform withTwo withValues withVertices wordParts zeroIfNone
 """.split()
 
 # Names that have no capital inside, or a word that the library now spells otherwise.
-OTHERS = {"UTF8-tail": "utf8_tail", "getD-both": "get_or-both"}
+OTHERS = {
+    "UTF8-tail": "utf8_tail",
+    "getD-both": "get_or-both",
+    "natAbs-signed": "nat_abs-signed",
+    "natAbs-times": "nat_abs-times",
+    "orNull-size": "or_null-size",
+}
 
 # Lemmas whose names port.py spelled as a definition's name is spelled from now on: they get their dash back.
 LEMMAS = re.compile(r"(?<![\w.:`'-])(is_digit|text_at|object_of|numbers_of|digits_value)(?![\w'-])")

@@ -30,7 +30,7 @@ use Rattle.utf8.specs.Bytes.{le}
 use Rattle.model.specs.Code.{signed, concat_map}
 use Rattle.model.specs.Model.{lay_three, lay_decimal, lay_nest, lay_value, lay_values}
 use Rattle.model.specs.Read.{natural, decimal_of, integer_of, index_of, value_of, three_of, nest_of}
-use Rattle.model.specs.Weigh.{decimal-fits}
+use Rattle.model.proofs.Weigh.{decimal-fits}
 use Rattle.sheets.specs.Numbers.{integer-read}
 use Rattle.writer.specs.Writes.{Writes, Skips, twos}
 use Rattle.writer.specs.Laws.{then, as_bytes, numbered, wrote-signed}
@@ -110,8 +110,8 @@ module _ {x t : List ℕ} {i : ℕ} where
             let l = rw w at (pair-at v s) in
             let j : record { m = n; e = k } ≡ decimal_of v = cc in
             let f = decimal-fits (decimal_of v) (pair_read v (h.holds v s)).1 in
-            let y' : b ≡ twos (decimal_of v).m = y ∙ ap twos (ap (λ z. to_z w64 (of_z w64 z)) (ap (λ q. q.m) j) ∙ to_z-of_z (sfits_of (omega (arith, f.0)))) in
-            let z' : c ≡ twos (decimal_of v).e = z ∙ ap twos (ap (λ z. to_z w64 (of_z w64 z)) (ap (λ q. q.e) j) ∙ to_z-of_z (sfits_of (omega (arith, f.1)))) in
+            let y' : b ≡ twos (decimal_of v).m = y ∙ ap twos (ap (λ z. to_z w64 (of_z w64 z)) (ap (λ q. q.m) j) ∙ to_z-of_z {w = w64} (sfits_of (omega (arith, f.0)))) in
+            let z' : c ≡ twos (decimal_of v).e = z ∙ ap twos (ap (λ z. to_z w64 (of_z w64 z)) (ap (λ q. q.e) j) ∙ to_z-of_z {w = w64} (sfits_of (omega (arith, f.1)))) in
             rw (← wrote-signed 8 (decimal_of v).m (omega arith) f.0, ← wrote-signed 2 (decimal_of v).e (omega arith) f.1, ← y', ← z') (then u g)
 
   -- a coordinate

@@ -17,8 +17,8 @@ use Rattle.model.specs.Code.{All, concat_map}
 use Rattle.model.specs.Lists.{all_map}
 use Rattle.model.specs.Model.{rec, lod_code, lay_nest, lay_values, surface_recs, semantics_recs, geometry_recs, object_recs, object_number, number_object, ids_of, sheet_of}
 use Rattle.model.specs.Read.{get, or_null, index_of, value_of, nest_of, surface_of, semantics_of, geometry_of, object_of, model_of}
-use Rattle.model.specs.Weigh.{length-le, weight, weight-cons, weight-append}
-use Rattle.model.specs.Size.{size, total, room, member_room, size-pos, elements-size, members-size, text-size, count-size, words-length, nest-length, values_length, surface-short, weight-all, sheet-parts}
+use Rattle.model.proofs.Weigh.{length-le, weight, weight-cons, weight-append}
+use Rattle.model.proofs.Size.{size, total, room, member_room, size-pos, elements-size, members-size, text-size, count-size, words-length, nest-length, values_length, surface-short, weight-all, sheet-parts}
 
 -- ---- what the bound asks of a tree
 

@@ -3,3 +3,4 @@ pub mod Any
 pub mod Passes
 mod Rule5
 mod Hashes
+pub mod Examples

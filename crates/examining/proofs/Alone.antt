@@ -16,7 +16,7 @@ use Rattle.nodes.specs.Access.{name_of, pairs, members, first_named, find}
 use Rattle.everywhere.specs.Everywhere.{among, repeated, rule6, rule6_of}
 use Rattle.fields.specs.Fields.{members_in, objects_of}
 use Rattle.model.specs.Model.{object_number}
-use Rattle.model.specs.AlikeLaws.{members-keep, named-keeps}
+use Rattle.model.proofs.AlikeLaws.{members-keep, named-keeps}
 use Rattle.ids.specs.Says.{names_of}
 use Rattle.sheets.specs.Clear.{nil-left, nil-right}
 

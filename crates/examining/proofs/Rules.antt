@@ -27,7 +27,7 @@ use Rattle.ids.specs.Says.{Offsets, Objects}
 use Rattle.rows.specs.Says.{Listed}
 use Rattle.links.specs.Says.{Ready, LinksGive}
 use Rattle.verdict.specs.Verdict.{faults, parsed, screening}
-use Rattle.verdict.specs.Exact.{in-text}
+use Rattle.verdict.proofs.Exact.{in-text}
 use Rattle.verdict.specs.Places.{Placed, early}
 use Rattle.refusals.specs.Refusals.{rule_number}
 use Rattle.refusals.specs.declared.Broken.TheVariants as broken

@@ -20,7 +20,7 @@ use Rattle.nodes.specs.Unique.{unique}
 use Rattle.schema.specs.declared.Walked.{Walked}
 use Rattle.verdict.specs.Verdict.{accepted, refused, faults, parsed, screening, verdict}
 use Rattle.verdict.specs.Verdict as judged
-use Rattle.verdict.specs.Exact.{verdict-long, verdict-odd, verdict-read, in-text}
+use Rattle.verdict.proofs.Exact.{verdict-long, verdict-odd, verdict-read, in-text}
 use Rattle.refusals.specs.Refusals.{refusal}
 use Rattle.refusals.specs.Says.{Tabled, Refuses}
 use Rattle.refusals.specs.declared.Refusal.{Refusal}

@@ -9,7 +9,7 @@ use Rattle.nodes.specs.Faults.{fault, least, no_fault}
 use Rattle.rules.specs.Schema.{city_json}
 use Rattle.rules.specs.Links.{link_faults}
 use Rattle.verdict.specs.Verdict.{Verdict, accepted, refused, given}
-use Rattle.verdict.specs.Examples.{judges}
+use Rattle.verdict.proofs.Examples.{judges}
 
 -- ---- texts around a part
 

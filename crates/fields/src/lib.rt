@@ -12,7 +12,7 @@ ghost use Rattle.fields.specs.Says.{StringNode};
 use nodes::Found;
 
 // The index of the city objects: the node of the name of each of the first 1,024, in the text's order, then zeros, and how many of them there are.
-#[derive(Drop)]
+#[derive(Clone, Copy)]
 pub struct Index {
     pub offsets: [usize; 1024],
     pub count: usize,

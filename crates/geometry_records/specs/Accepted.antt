@@ -20,7 +20,7 @@ use Rattle.rules.specs.Schema as schema
 use Rattle.model.specs.Code.{All}
 use Rattle.model.specs.Lists.{all_both}
 use Rattle.model.specs.Read.{get}
-use Rattle.model.specs.Size.{size, get-size, elements-within, find-within, count-within}
+use Rattle.model.proofs.Size.{size, get-size, elements-within, find-within, count-within}
 use Rattle.sheets.specs.Clear.{nil-left, nil-right, cond-right, kept, first_of, text-ok, clear, has, found, at_some, each-clear, type-text, counted}
 use Rattle.sheets.specs.Numbers.{ranged_below, matches-clear}
 use Rattle.sheets.specs.Faultless.{geometry-type-good, lod-clear, boundary-clear, values-clear, geometry_checks}

@@ -9,7 +9,7 @@ use Rattle.fields.specs.Fields.{text_in}
 use Rattle.words.specs.Words.{geometry_words, code_of, depth, values_depth}
 use Rattle.utf8.specs.Bytes.{le}
 use Rattle.model.specs.Code.{concat_map}
-use Rattle.model.specs.Weigh.{each-each}
+use Rattle.model.proofs.Weigh.{each-each}
 use Rattle.model.specs.Model.{rec, lay_rec, lod_code, lay_nest, lay_values, surface_recs, semantics_recs, geometry_recs}
 use Rattle.model.specs.Read.{get, or_null, index_of, value_of, nest_of, lod_of, surface_of, semantics_of, geometry_of}
 use Rattle.arrays.specs.Parts.{each_map}

@@ -1,12 +1,11 @@
 -- The machine that reads JSON texts and RFC 8259's grammar agree: `Theorems` says how, with the definitions of `Order`; the other files prove it.
-pub mod Theorems
 pub mod Order
 pub mod Induction
 pub mod Joins
 pub mod Accepts
 pub mod Derived
 pub mod Parsed
-pub mod Ordered
 pub mod Endings
 pub mod Alike
 pub mod Reaches
+pub mod Theorems

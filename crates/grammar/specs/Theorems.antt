@@ -12,63 +12,7 @@ use Rattle.grammar.specs.Accepts.{to-run, from-run}
 use Rattle.grammar.specs.Derived.{derived}
 use Rattle.grammar.specs.Parsed.{parsed}
 use Rattle.grammar.specs.Reaches as reaches
-use Rattle.grammar.specs.Ordered as order
-
--- the machine reads a text with at most l levels, as the tree v, exactly if the grammar derives it with at most l levels and the tree v
-pub reads-text : (l : ℕ) (x : List ℕ) (v : Json) → (run l x want [] 0 x ≡ reads v) ↔ Text l x v
-reads-text l x v = ((λ e. parsed (from-run x want [] 0 refl (omega arith) e)), (λ d. to-run (derived d)))
-
--- the same with at most 32 levels
-pub read-text : (x : List ℕ) (v : Json) → (read x ≡ reads v) ↔ Text 32 x v
-unfolding read
-read-text x v = reads-text 32 x v
-
--- a text has one tree
-pub one-tree : (l : ℕ) (x : List ℕ) (v w : Json) → Text l x v → Text l x w → v ≡ w
-one-tree l x v w d e = let z : reads v ≡ reads w = sym ((reads-text l x v).1 d) ∙ (reads-text l x w).1 e in cc
-
--- which lies in order within the text
-pub ordered : (l : ℕ) (x : List ℕ) (v : Json) → Text l x v → (p e : ℕ) × Spans v p e × (e ≤ length x)
-ordered = order.ordered
 
 -- the machine stops at n: the text is bad there, or opens a level too many there
 abbrev pub Stopped : List ℕ → ℕ → Type 0
 Stopped x n = (read x ≡ bad n) ⊎ (read x ≡ too_deep n)
-
--- where it stops, the bytes before begin some text of the grammar with at most 32 levels, and with one byte more they begin none
-pub stops : (x : List ℕ) (n : ℕ) → Stopped x n → (n ≤ length x) × Begins 32 (take n x) × (n < length x → Begins 32 (take (n + 1) x) → ⊥)
-unfolding read
-stops x n (inl e) = reaches.bad-stops 32 x n (rw e at (reaches.halted 32 x))
-stops x n (inr e) = reaches.deep-stops 32 x n (rw e at (reaches.halted 32 x))
-
--- and it stops there exactly if besides the text is no text of the grammar with at most 32 levels
-pub stops-exactly : (x : List ℕ) (n : ℕ)
-    → Stopped x n ↔ (((v : Json) → Text 32 x v → ⊥) × ((n ≤ length x) × Begins 32 (take n x) × (n < length x → Begins 32 (take (n + 1) x) → ⊥)))
-stops-exactly x n = ((λ s. ((λ v d. no s ((read-text x v).1 d)), stops x n s)), (λ (f, s). by (read x) refl f s))
-  where
-    no : {v : Json} → Stopped x n → read x ≡ reads v → ⊥
-    no (inl e) q = clash cc
-    no (inr e) q = clash cc
-
-    by : (o : Outcome) → read x ≡ o → ((v : Json) → Text 32 x v → ⊥) → reaches.Stops 32 x n → Stopped x n
-    by (reads v) e f s = absurd (f v ((read-text x v).0 e))
-    by (bad k) e f s = let z = reaches.one_place 32 x n k s (stops x k (inl e)) in inl (cc)
-    by (too_deep k) e f s = let z = reaches.one_place 32 x n k s (stops x k (inr e)) in inr (cc)
-
--- where it says that a level too many is opened, one byte more begins a text of the grammar with at most 33 levels
-pub deep-deeper : (x : List ℕ) (n : ℕ) → read x ≡ too_deep n → (n < length x) × Begins 33 (take (n + 1) x)
-unfolding read
-deep-deeper x n e = reaches.deep-deeper 32 x n (rw e at (reaches.halted 32 x))
-
--- where it says that the text is bad, one byte more begins no text of the grammar, with however many levels
-pub bad-never : (x : List ℕ) (n : ℕ) → read x ≡ bad n → n < length x → (l : ℕ) → Begins l (take (n + 1) x) → ⊥
-unfolding read
-bad-never x n e = reaches.bad-never 32 x n (rw e at (reaches.halted 32 x))
-
--- so where it stops, it says that a level too many is opened exactly if one byte more begins a text of the grammar with some number of levels
-pub deep-exactly : (x : List ℕ) (n : ℕ) → Stopped x n → (read x ≡ too_deep n) ↔ ((n < length x) × ((l : ℕ) × Begins l (take (n + 1) x)))
-deep-exactly x n s = ((λ e. ((deep-deeper x n e).0, (33, (deep-deeper x n e).1))), (λ (h, (l, b)). by s h l b))
-  where
-    by : Stopped x n → n < length x → (l : ℕ) → Begins l (take (n + 1) x) → read x ≡ too_deep n
-    by (inl e) h l b = absurd (bad-never x n e h l b)
-    by (inr e) h l b = e

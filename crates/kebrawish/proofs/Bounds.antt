@@ -10,11 +10,11 @@ use lib.ListN.{length}
 use lib.Dec.{leb}
 use Rattle.utf8.specs.Laws.{clash}
 use Rattle.verdict.specs.Verdict.{Verdict, accepted, refused, verdict}
-use Rattle.verdict.specs.Exact.{accepted-clean, verdict-long, ends-inside}
+use Rattle.verdict.proofs.Exact.{accepted-clean, verdict-long, ends-inside}
 use Rattle.sheets.specs.Laid.{sheet_of_text, fitted, answer}
 use Rattle.sheets.specs.Laid as laid
-use Rattle.sheets.specs.Answers.{of-laid}
-use Rattle.sheets.specs.Theorems.{sizes}
+use Rattle.sheets.proofs.Answers.{of-laid}
+use Rattle.sheets.proofs.Theorems.{sizes}
 use Rattle.refusals.specs.Refusals.{rule_number}
 use Rattle.refusals.specs.declared.Broken.{Broken}
 use Rattle.refusals.specs.declared.Refusal.{Refusal}

@@ -17,7 +17,7 @@ use Rattle.schema.specs.declared.Walked.{Walked}
 use Rattle.rules.specs.Links.{link_faults}
 use Rattle.model.specs.Model.{sheet_of}
 use Rattle.model.specs.Read.{model_of}
-use Rattle.model.specs.Size.{short-enough}
+use Rattle.model.proofs.Size.{short-enough}
 use Rattle.verdict.specs.Verdict as verdict
 use Rattle.verdict.specs.Verdict.{faults, parsed, screening}
 use Rattle.verdict.specs.Places.{early}

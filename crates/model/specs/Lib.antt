@@ -6,12 +6,6 @@ pub mod Model
 pub mod Read
 pub mod Good
 pub mod Fits
-pub mod Once
 pub mod Numbers
-pub mod Weigh
-pub mod Demand
 pub mod Alike
-pub mod AlikeLaws
-pub mod AlikeTest
-pub mod AlikeExamples
-pub mod Size
+pub mod Demand

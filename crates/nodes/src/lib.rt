@@ -8,7 +8,7 @@ ghost use Rattle.nodes.specs.Faults.{fault};
 ghost use Rattle.nodes.specs.Says.{Node, Gives, Seeks};
 
 // What a search gives: the node of what is sought, or that there is none.
-#[derive(Drop)]
+#[derive(Clone, Copy)]
 pub enum Found {
     At(usize),
     Nothing,

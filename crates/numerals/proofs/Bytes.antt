@@ -13,7 +13,7 @@ use borrow.Author.Tests.{ne_eqb, le-leb, lt-leb, not-true, not-false}
 use borrow.Author.Rules.{rules}
 use Rattle.utf8.specs.Ascii.{is_digit}
 use Rattle.numerals.specs.Numerals.{is_point, is_letter, is_integer, digits, natural, negative}
-use Rattle.numerals.specs.Laws.{digit_low, digit-high}
+use Rattle.numerals.proofs.Laws.{digit_low, digit-high}
 use Rattle.numerals.specs.Reading.{saturated}
 
 -- ---- the kinds of byte

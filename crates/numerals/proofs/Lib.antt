@@ -5,3 +5,7 @@ mod Wholes
 mod Powers
 mod Sums
 mod Pairs
+pub mod Examples
+pub mod Laws
+pub mod Values
+pub mod Parts

@@ -18,7 +18,7 @@ use borrow.Author.Tests.{eq-eqb, ne_eqb, le-leb, lt-leb, lt-ltb, le-ltb, ltb-tru
 use borrow.Author.Rules.{rules}
 use Rattle.utf8.specs.Ascii.{is_digit}
 use Rattle.numerals.specs.Numerals.{Decimal, Trimmed, more, trimmed, is_point, is_letter, digits, natural, negative, signed, after, mantissa, places, exponent, scaled, decimal, in_range, pair_of}
-use Rattle.numerals.specs.Laws.{digit_low, after-no, after-yes, natAbs-signed}
+use Rattle.numerals.proofs.Laws.{digit_low, after-no, after-yes, nat_abs-signed}
 use Rattle.numerals.specs.Reading.{pair_in, saturated, IsWhole, digit, taken, sums, nothing, IsRead, Reads, Reaches, power_of}
 use Rattle.numerals.specs.declared.Numeral.TheVariants.{Pair, Out}
 use Rattle.numerals.specs.declared.Whole.{Whole}
@@ -184,7 +184,7 @@ module _ (raw : List ℕ) (s : Sum) (e : s ≡ sums nothing (mantissa raw)) wher
       (ne_eqb s.m 0 n)
 
   large : 10 ^ 15 ≤ s.m → none ≡ pair_of raw
-  large h = pair-none raw _ (decimal-other (omega arith)) (range-large (record { m = signed (negative raw) s.m; e = exact }) (rw (natAbs-signed (negative raw) s.m) h))
+  large h = pair-none raw _ (decimal-other (omega arith)) (range-large (record { m = signed (negative raw) s.m; e = exact }) (rw (nat_abs-signed (negative raw) s.m) h))
 
 pub pair-large : (text : List ℕ) (at end : ℕ) {r : Mantissa} → r ≡ Large → Reads text at end r → pair_in Out ≡ pair_of (slice at end text)
 unfolding pair_in Reads
@@ -239,7 +239,7 @@ module _ (text : List ℕ) (at end : ℕ) {r : Mantissa} {s : Sum} {next : ℕ} 
         (slice at end text)
         (record { m = signed (negative (slice at end text)) s.m; e = read-power })
         (decimal-other (slice at end text) s is_read.sum n ∙ (λ i. record { m = signed (negative (slice at end text)) s.m; e = sym x i }))
-        (range-yes _ (rw (natAbs-signed (negative (slice at end text)) s.m) is_read.room.m) b)
+        (range-yes _ (rw (nat_abs-signed (negative (slice at end text)) s.m) is_read.room.m) b)
 
     pub pair-beyond : {t : Power} → t ≡ Beyond → Reaches (power_of s.zeros s.places w.negative w.magnitude) t → pair_in Out ≡ pair_of (slice at end text)
     unfolding pair_in Reaches read-power

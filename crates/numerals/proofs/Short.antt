@@ -15,7 +15,7 @@ use borrow.Author.Tests.{ne_eqb, eq-eqb, lt-ltb, le-ltb}
 use Rattle.utf8.specs.Ascii.{is_digit}
 use Rattle.utf8.specs.Laws.{never}
 use Rattle.numerals.specs.Numerals.{is_point, is_letter, is_integer, integer, digits, natural, negative, signed, fits32}
-use Rattle.numerals.specs.Laws.{digit-high}
+use Rattle.numerals.proofs.Laws.{digit-high}
 use Rattle.numerals.specs.Reading.{all_digits, quick_of, is_short, Quick, Short}
 use Rattle.numerals.proofs.Bytes.{bytes, slice-next, slice_out, digits_more}
 

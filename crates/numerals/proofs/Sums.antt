@@ -10,7 +10,7 @@ use lib.Seq.{slice}
 use borrow.Author.Tests.{eq-eqb, ne_eqb}
 use Rattle.utf8.specs.Ascii.{is_digit}
 use Rattle.numerals.specs.Numerals.{is_point, is_letter, before, after, mantissa, places}
-use Rattle.numerals.specs.Laws.{digit_low, digit-high, before-no, before-yes, after-no, after-yes}
+use Rattle.numerals.proofs.Laws.{digit_low, digit-high, before-no, before-yes, after-no, after-yes}
 use Rattle.numerals.specs.Reading.{digit, taken, sums, nothing, capped, Room, Reads}
 use Rattle.numerals.specs.declared.Sum.{Sum}
 use Rattle.numerals.specs.declared.Mantissa.TheVariants.{Read, Large}

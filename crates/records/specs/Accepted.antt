@@ -14,7 +14,7 @@ use Rattle.rules.specs.Schema.{geometry, geometries, links, city_object, city_ob
 use Rattle.model.specs.Code.{All}
 use Rattle.model.specs.Lists.{all_both}
 use Rattle.model.specs.Read.{get}
-use Rattle.model.specs.Size.{size, get-size, members-within}
+use Rattle.model.proofs.Size.{size, get-size, members-within}
 use Rattle.sheets.specs.Clear.{nil-left, nil-right, kept, implied, is-string, numeral-ok, clear, has, at_some, each-clear, objects-members}
 use Rattle.sheets.specs.Numbers.{coordinate-clear, vertex-clear}
 use Rattle.sheets.specs.Short.{tree-within}

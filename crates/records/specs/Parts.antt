@@ -7,7 +7,7 @@ use Rattle.fields.specs.Fields.{objects_of}
 use Rattle.words.specs.Words.{object_words, code_of}
 use Rattle.utf8.specs.Bytes.{le}
 use Rattle.model.specs.Code.{signed, concat_map}
-use Rattle.model.specs.Weigh.{each-each}
+use Rattle.model.proofs.Weigh.{each-each}
 use Rattle.model.specs.Model.{Rec, rec, lay_rec, lay_three, lay_decimal, geometry_recs, object_recs, model_recs, lay_model, object_number, ids_of, number_object, number_model, sheet_of}
 use Rattle.model.specs.Read.{get, or_null, decimal_of, integer_of, three_of, geometry_of, object_of, model_of}
 use Rattle.arrays.specs.Parts.{each_map}

@@ -38,7 +38,7 @@ mutual
 
   rule6-members : (ms : Members) → rule6_of ms ≡ flat_map own6 (parts_of ms)
   rule6-members tree.empty = refl
-  rule6-members (member k v ms) = rw (flat-++, rule6-parts v, rule6-members ms)
+  rule6-members (member k v ms) = rw (flat-++ own6 _ _, rule6-parts v, rule6-members ms)
 
 -- a least that is sure comes from one that is sure
 pub sure-before : {others b r : ℕ} (fs : List ℕ) → r ≡ least b fs → Sure others r → Sure others b

@@ -28,7 +28,7 @@ use Rattle.model.specs.Model.{added, object_number, ids_of}
 use Rattle.model.specs.Model as model
 use Rattle.model.specs.Good.{GoodLod, GoodSurface, GoodVertex, GoodSemantics, GoodGeometry, Known, GoodObject, GoodModel, Both}
 use Rattle.model.specs.Read.{or_null, get, integer_of, index_of, three_of, nest_of, minor_of, lod_of, surface_named, surface_of, semantics_of, geometry_of, object_of, model_of}
-use Rattle.model.specs.Size.{size, short-enough}
+use Rattle.model.proofs.Size.{size, short-enough}
 use Rattle.sheets.specs.Clear.{nil-left, nil-right, cond-left, cond-right, kept, first_of, is-string, text-ok, clear, Clear, has, found, at_some, at_null, list-good, type-text, counted, listed-elements, objects-members}
 use Rattle.sheets.specs.Numbers.{boundary-good, values-good, GoodPairs, pairs-good, pairs-null, vertex-good}
 

@@ -5,9 +5,5 @@ pub mod Numbers
 pub mod Short
 pub mod Faultless
 pub mod Quoted
-pub mod Answers
 pub mod Characters
 pub mod Theorems
-pub mod Examples
-pub mod AlikeExamples
-pub mod Starred

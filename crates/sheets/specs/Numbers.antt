@@ -6,7 +6,7 @@ use Rattle.std.proofs.Math.Option as option
 use Rattle.std.specs.Int.Signed.{mag}
 use Rattle.utf8.specs.Laws.{both_left, both_right, never}
 use Rattle.numerals.specs.Numerals.{Decimal, decimal, in_range, pair_of, is_integer, integer, fits32, is_below, whole_of}
-use Rattle.numerals.specs.Laws.{whole}
+use Rattle.numerals.proofs.Laws.{whole}
 use Rattle.json_text.specs.Tree.{Json, null, bool, num, str, arr, obj}
 use Rattle.nodes.specs.Access.{is_null_value, is_number_value, is_array_value, elements, numeral_of}
 use Rattle.shapes.specs.Checks.{unless, for_each, each_element, number_kind, array_kind, is_some}

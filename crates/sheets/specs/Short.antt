@@ -6,8 +6,8 @@ use Rattle.json_text.specs.Machine.{read, reads}
 use Rattle.strings.specs.Laws.{decode-short}
 use Rattle.grammar.specs.Order.{Spans, Row, Rows}
 use Rattle.grammar.specs.Order as order
-use Rattle.grammar.specs.Theorems.{read-text, ordered}
-use Rattle.model.specs.Size.{size, sizes, weights}
+use Rattle.grammar.proofs.Theorems.{read-text, ordered}
+use Rattle.model.proofs.Size.{size, sizes, weights}
 
 mutual
   unfolding size

@@ -5,3 +5,5 @@ mod Escapes
 mod Loops
 mod Scans
 mod Rules
+pub mod Characters
+pub mod Examples

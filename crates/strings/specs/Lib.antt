@@ -1,6 +1,5 @@
 -- What the bytes between the quotes of a JSON string stand for.
 pub mod Strings
-pub mod Examples
 pub mod Spans
 pub mod Parts
 pub mod Laws

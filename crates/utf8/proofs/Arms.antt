@@ -17,9 +17,9 @@ use Rattle.utf8.specs.Rows.Range.{◌to◌}
 use Rattle.utf8.specs.Laws.{below_or_not, never, written-character, written-bytes, size-written}
 use Rattle.utf8.specs.Finite.{all_from, each_below}
 use Rattle.utf8.specs.Meaning.{size-starts}
-use Rattle.utf8.specs.RowLaws.{Opens, match-opens, only_row}
-use Rattle.utf8.specs.RowLaws.Opens.{opens}
-use Rattle.utf8.specs.OneRow.{row-character, one-row}
+use Rattle.utf8.proofs.RowLaws.{Opens, match-opens, only_row}
+use Rattle.utf8.proofs.RowLaws.Opens.{opens}
+use Rattle.utf8.proofs.OneRow.{row-character, one-row}
 
 -- a range, and a row after it
 matches-more : (range : Range) (r : List Range) (s : List ℕ) → matches (range ∷ r) s ≡ (matches (range ∷ []) s && matches r (drop 1 s))

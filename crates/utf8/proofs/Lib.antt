@@ -2,3 +2,6 @@
 mod Arms
 mod Places
 mod Rules
+pub mod RowLaws
+pub mod OneRow
+pub mod Examples

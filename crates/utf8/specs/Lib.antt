@@ -5,9 +5,7 @@ pub mod Utf8
 pub mod Rows
 pub mod Says
 pub mod Laws
-pub mod RowLaws
 pub mod Meaning
-pub mod OneRow
 pub mod Splits
-pub mod Examples
 pub mod Finite
+pub mod RowLaws

@@ -2,6 +2,5 @@
 pub mod Ends
 pub mod EndLaws
 pub mod Verdict
-pub mod Examples
 pub mod Places
 pub mod Exact

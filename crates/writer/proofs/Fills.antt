@@ -8,7 +8,7 @@ use lib.ListN.{length, drop, set, replicate, length-set}
 use lib.Seq.{sets-eq, drop-length}
 use borrow.Author.Fill.{fill_more}
 use Rattle.utf8.specs.Bytes.{le}
-use Rattle.model.specs.Weigh.{length-le}
+use Rattle.model.proofs.Weigh.{length-le}
 use Rattle.strings.specs.Spans.{Span, decode_at, Copied}
 use Rattle.strings.specs.Laws.{decode_at-short}
 use Rattle.writer.specs.Writes.{Writes, Stores, Skips}

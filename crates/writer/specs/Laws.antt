@@ -7,7 +7,7 @@ use Rattle.std.proofs.lemmas.List.Edits.{sets, sets-eq}
 use Rattle.utf8.specs.Bytes.{le}
 use Rattle.model.specs.Code.{signed, Holds}
 use Rattle.model.specs.Model.{lay_rec}
-use Rattle.model.specs.Weigh.{length-le, length-rec}
+use Rattle.model.proofs.Weigh.{length-le, length-rec}
 use Rattle.writer.specs.Writes.{Writes, Skips, Closes, twos}
 
 -- ---- bytes set one after the other

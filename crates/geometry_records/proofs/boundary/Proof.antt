@@ -4,8 +4,9 @@ use Rattle.geometry_records.proofs.Rules.{geometries}
 use Rattle.geometry_records.proofs.boundary.Statement.{statement}
 use Rattle.geometry_records.proofs.boundary.Tie as tie
 
-pub boundary-spec : {M : Type 1} → statement M
+pub boundary_spec : {M : Type 1} → statement M
 unfolding ascii
-boundary-spec =
-    tie.close (tie.spec (λ c. search geometries) (λ c κs. search geometries) (λ c κs. search geometries) (λ c κs. search geometries) (λ c. search geometries)
+boundary_spec =
+    tie.close (tie.spec
+    (λ c κs. search geometries) (λ c κs. search geometries) (λ c κs. search geometries) (λ c. search geometries)
     (λ c. search geometries))

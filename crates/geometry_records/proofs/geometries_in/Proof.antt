@@ -4,8 +4,9 @@ use Rattle.geometry_records.proofs.Rules.{geometries}
 use Rattle.geometry_records.proofs.geometries_in.Statement.{statement}
 use Rattle.geometry_records.proofs.geometries_in.Tie as tie
 
-pub geometries-in-spec : {M : Type 1} → statement M
+pub geometries_in_spec : {M : Type 1} → statement M
 unfolding ascii
-geometries-in-spec =
-    tie.close (tie.spec (λ c. search geometries) (λ c κs. search geometries) (λ c. search geometries) (λ c. search geometries) (λ c. search geometries)
+geometries_in_spec =
+    tie.close (tie.spec
+    (λ c κs. search geometries) (λ c. search geometries) (λ c. search geometries) (λ c. search geometries)
     (λ c κs. search geometries) (λ c. search geometries) (λ c. search geometries))

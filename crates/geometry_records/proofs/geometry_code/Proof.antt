@@ -4,6 +4,7 @@ use Rattle.geometry_records.proofs.Rules.{geometries}
 use Rattle.geometry_records.proofs.geometry_code.Statement.{statement}
 use Rattle.geometry_records.proofs.geometry_code.Tie as tie
 
-pub geometry-code-spec : {M : Type 1} → statement M
+pub geometry_code_spec : {M : Type 1} → statement M
 unfolding ascii
-geometry-code-spec = tie.close (tie.spec (λ c. search geometries) (λ c κs. search geometries) (λ c κs. search geometries) (λ c. search geometries))
+geometry_code_spec = tie.close (tie.spec
+    (λ c κs. search geometries) (λ c κs. search geometries) (λ c. search geometries))

@@ -4,8 +4,9 @@ use Rattle.geometry_records.proofs.Rules.{geometries}
 use Rattle.geometry_records.proofs.lod.Statement.{statement}
 use Rattle.geometry_records.proofs.lod.Tie as tie
 
-pub lod-spec : {M : Type 1} → statement M
+pub lod_spec : {M : Type 1} → statement M
 unfolding ascii
-lod-spec =
-    tie.close (tie.spec (λ c. search geometries) (λ c κs. search geometries) (λ c κs. search geometries) (λ c κs. search geometries) (λ c. search geometries)
+lod_spec =
+    tie.close (tie.spec
+    (λ c κs. search geometries) (λ c κs. search geometries) (λ c κs. search geometries) (λ c. search geometries)
     (λ c. search geometries))

@@ -3,8 +3,8 @@ use Rattle.geometry_records.proofs.Rules.{geometries}
 use Rattle.geometry_records.proofs.lod_code.Statement.{statement}
 use Rattle.geometry_records.proofs.lod_code.Tie as tie
 
-pub lod-code-spec : {M : Type 1} → statement M
-lod-code-spec =
+pub lod_code_spec : {M : Type 1} → statement M
+lod_code_spec =
     tie.close (tie.spec (λ c. search geometries) (λ c κs. search geometries) (λ c. search geometries) (λ c κs. search geometries) (λ c. search geometries)
     (λ c. search geometries) (λ c. search geometries) (λ c. search geometries) (λ c. search geometries) (λ c κs. search geometries) (λ c. search geometries)
     (λ c. search geometries))

@@ -4,6 +4,7 @@ use Rattle.geometry_records.proofs.Rules.{geometries}
 use Rattle.geometry_records.proofs.surface_body.Statement.{statement}
 use Rattle.geometry_records.proofs.surface_body.Tie as tie
 
-pub surface-body-spec : {M : Type 1} → statement M
+pub surface_body_spec : {M : Type 1} → statement M
 unfolding ascii
-surface-body-spec = tie.close (tie.spec (λ c. search geometries) (λ c κs. search geometries) (λ c κs. search geometries) (λ c. search geometries) (λ c. search geometries))
+surface_body_spec = tie.close (tie.spec
+    (λ c κs. search geometries) (λ c κs. search geometries) (λ c. search geometries) (λ c. search geometries))

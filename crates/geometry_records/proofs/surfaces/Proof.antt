@@ -7,13 +7,13 @@ use Rattle.geometry_records.proofs.Rules.{geometries}
 use Rattle.geometry_records.proofs.surfaces.Statement.{statement}
 use Rattle.geometry_records.proofs.surfaces.Tie as tie
 
-abbrev invariant-loop : tie.invariant-loop
+abbrev invariant-loop : tie.invariant-loop-k
 invariant-loop text table i sheet₀ at n o₀ k₀ sheet o k = Laying Any surface_bytes text table i n k sheet₀ sheet at o
 
-abbrev decreases-loop : tie.decreases-loop
+abbrev decreases-loop : tie.decreases-loop-k
 decreases-loop text table i sheet₀ at n o₀ k₀ sheet o k = n - k
 
-pub surfaces-spec : {M : Type 1} → statement M
-surfaces-spec =
+pub surfaces_spec : {M : Type 1} → statement M
+surfaces_spec =
     tie.close (tie.spec invariant-loop decreases-loop (λ c κs. search geometries) (λ c. search geometries) (λ c. search geometries) (λ c κs. search geometries)
     (λ c κs. search geometries) (λ c. search geometries) (λ c. search geometries) (λ c. search geometries) (λ c. search geometries))

@@ -4,8 +4,9 @@ use Rattle.geometry_records.proofs.Rules.{geometries}
 use Rattle.geometry_records.proofs.surfaces_in.Statement.{statement}
 use Rattle.geometry_records.proofs.surfaces_in.Tie as tie
 
-pub surfaces-in-spec : {M : Type 1} → statement M
+pub surfaces_in_spec : {M : Type 1} → statement M
 unfolding ascii
-surfaces-in-spec =
-    tie.close (tie.spec (λ c. search geometries) (λ c κs. search geometries) (λ c. search geometries) (λ c. search geometries) (λ c. search geometries)
+surfaces_in_spec =
+    tie.close (tie.spec
+    (λ c κs. search geometries) (λ c. search geometries) (λ c. search geometries) (λ c. search geometries)
     (λ c κs. search geometries) (λ c. search geometries) (λ c. search geometries))

@@ -5,5 +5,5 @@ use Rattle.geometry_records.proofs.Rules.{headers}
 use Rattle.geometry_records.proofs.values.Statement.{statement}
 use Rattle.geometry_records.proofs.values.Tie as tie
 
-pub values-spec : {M : Type 1} → statement M
-values-spec = tie.close (tie.spec (λ c κs. search headers) (λ c κs. search values-named) (λ c κs. search headers) (λ c. search headers) (λ c. search values-closed))
+pub values_spec : {M : Type 1} → statement M
+values_spec = tie.close (tie.spec (λ c κs. search headers) (λ c κs. search values-named) (λ c κs. search headers) (λ c. search headers) (λ c. search values-closed))

@@ -4,8 +4,9 @@ use Rattle.geometry_records.proofs.Rules.{geometries}
 use Rattle.geometry_records.proofs.values_body.Statement.{statement}
 use Rattle.geometry_records.proofs.values_body.Tie as tie
 
-pub values-body-spec : {M : Type 1} → statement M
+pub values_body_spec : {M : Type 1} → statement M
 unfolding ascii
-values-body-spec =
-    tie.close (tie.spec (λ c. search geometries) (λ c κs. search geometries) (λ c κs. search geometries) (λ c κs. search geometries) (λ c. search geometries)
+values_body_spec =
+    tie.close (tie.spec
+    (λ c κs. search geometries) (λ c κs. search geometries) (λ c κs. search geometries) (λ c. search geometries)
     (λ c. search geometries))

@@ -3,8 +3,8 @@ use Rattle.links.proofs.Rules.{absents}
 use Rattle.links.proofs.absent.Statement.{statement}
 use Rattle.links.proofs.absent.Tie as tie
 
-pub absent-spec : {M : Type 1} → statement M
-absent-spec =
+pub absent_spec : {M : Type 1} → statement M
+absent_spec =
     tie.close
     (tie.spec
     (λ c κs. search absents)

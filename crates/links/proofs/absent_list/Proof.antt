@@ -6,26 +6,26 @@ use Rattle.links.proofs.Rules.{listing}
 use Rattle.links.proofs.absent_list.Statement.{statement}
 use Rattle.links.proofs.absent_list.Tie as tie
 
-abbrev invariant-loop : tie.invariant-loop
+abbrev invariant-loop : tie.invariant-loop-k
 invariant-loop text table i numbers count best seen₀ n least₀ k₀ j₀ seen least k j = Listing text table i numbers count best n k j least seen
 
-abbrev decreases-loop : tie.decreases-loop
+abbrev decreases-loop : tie.decreases-loop-k
 decreases-loop text table i numbers count best seen₀ n least₀ k₀ j₀ seen least k j = n - k
 
-next-requires-2 : tie.Need-next-requires-2 invariant-loop decreases-loop
-next-requires-2 c κs = listing-next c.before.before.loop.invariant c.before.loop-test.true
+next-requires-2 : tie.Need-next-next-requires invariant-loop decreases-loop
+next-requires-2 c κs = listing-next c.loop-k.invariant c.loop-k-test.true
 
-add-j : tie.Need-overflow-add-j invariant-loop decreases-loop
-add-j c = omega (arith, listing-word c.before.before.before.loop.invariant c.before.before.loop-test.true)
+add-j : tie.Need-overflow_add-j invariant-loop decreases-loop
+add-j c = omega (arith, listing-word c.loop-k.invariant c.loop-k-test.true)
 
-loop-again : tie.Need-loop-preserved invariant-loop decreases-loop
+loop-again : tie.Need-loop-k-preserved invariant-loop decreases-loop
 loop-again c =
     let before-call = c.before.before.before.before in
-    listing-turn before-call.before.before.before.loop.invariant before-call.before.before.loop-test.true before-call.before.word.ensures.0
-    c.before.before.absent.ensures before-call.next2.ensures
+    listing-turn before-call.loop-k.invariant before-call.loop-k-test.true before-call.word-number.ensures.0
+    c.absent-least.ensures before-call.next-next.ensures
 
-pub absent-list-spec : {M : Type 1} → statement M
-absent-list-spec =
+pub absent_list_spec : {M : Type 1} → statement M
+absent_list_spec =
     tie.close
     (tie.spec
     invariant-loop

@@ -3,8 +3,8 @@ use Rattle.links.proofs.Rules.{absents}
 use Rattle.links.proofs.absent_member.Statement.{statement}
 use Rattle.links.proofs.absent_member.Tie as tie
 
-pub absent-member-spec : {M : Type 1} → statement M
-absent-member-spec =
+pub absent_member_spec : {M : Type 1} → statement M
+absent_member_spec =
     tie.close
     (tie.spec
     (λ c κs. search absents)

@@ -3,8 +3,8 @@ use Rattle.links.proofs.Rules.{sweeping}
 use Rattle.links.proofs.absent_object.Statement.{statement}
 use Rattle.links.proofs.absent_object.Tie as tie
 
-pub absent-object-spec : {M : Type 1} → statement M
-absent-object-spec =
+pub absent_object_spec : {M : Type 1} → statement M
+absent_object_spec =
     tie.close
     (tie.spec
     (λ c. search sweeping)

@@ -7,17 +7,16 @@ use Rattle.links.proofs.Sweeps.{parent-some, parent-told}
 use Rattle.links.proofs.has_parent.Statement.{statement}
 use Rattle.links.proofs.has_parent.Tie as tie
 
-returns-2 : tie.Need-returns-2
+returns-2 : tie.Need-returns
 unfolding ascii
 returns-2 c =
-    parent-told _ c.before.before.before.before.if1.false (seeks-find "type" refl c.before.before.member.ensures) c.before.is-second-level.ensures c.unless.ensures
+    parent-told _ c.if-count-ne0.false (seeks-find "type" refl c.member-kind.ensures) c.is_second_level.ensures c.unless.ensures
 
-pub has-parent-spec : {M : Type 1} → statement M
-has-parent-spec =
+pub has_parent_spec : {M : Type 1} → statement M
+has_parent_spec =
     tie.close
     (tie.spec
-    (λ c. parent-some _ c.if1.true)
-    (λ c. search linking)
+    (λ c. parent-some _ c.if-count-ne0.true)
     (λ c κs. search linking)
     (λ c κs. search linking)
     (λ c κs. search linking)

@@ -9,14 +9,10 @@ use Rattle.links.proofs.is_group.Tie as tie
 
 returns : tie.Need-returns
 unfolding ascii
-returns c = type-is (seeks-find "type" refl c.before.before.member.ensures) "CityObjectGroup" c.found_word.ensures
+returns c = type-is (seeks-find "type" refl c.member-kind.ensures) "CityObjectGroup" c.found_word.ensures
 
-pub is-group-spec : {M : Type 1} → statement M
-is-group-spec =
+pub is_group_spec : {M : Type 1} → statement M
+is_group_spec =
     tie.close
     (tie.spec
-    (λ c. search linking)
-    (λ c κs. search linking)
-    (λ c. search linking)
-    (λ c κs. search linking)
-    returns)
+    (λ c κs. search linking) (λ c κs. search linking) returns)

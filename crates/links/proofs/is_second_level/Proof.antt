@@ -3,8 +3,8 @@ use Rattle.links.proofs.Level.{level}
 use Rattle.links.proofs.is_second_level.Statement.{statement}
 use Rattle.links.proofs.is_second_level.Tie as tie
 
-pub is-second-level-spec : {M : Type 1} → statement M
-is-second-level-spec =
+pub is_second_level_spec : {M : Type 1} → statement M
+is_second_level_spec =
     tie.close
     (tie.spec
     (λ c. search level)

@@ -3,8 +3,8 @@ use Rattle.links.proofs.Rules.{towns}
 use Rattle.links.proofs.links.Statement.{statement}
 use Rattle.links.proofs.links.Tie as tie
 
-pub links-spec : {M : Type 1} → statement M
-links-spec =
+pub links_spec : {M : Type 1} → statement M
+links_spec =
     tie.close
     (tie.spec
     (λ c κs. search towns)

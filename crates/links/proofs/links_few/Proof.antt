@@ -6,11 +6,11 @@ use Rattle.links.proofs.Rules.{towns}
 use Rattle.links.proofs.links_few.Statement.{statement}
 use Rattle.links.proofs.links_few.Tie as tie
 
-links-with-requires : tie.Need-links-with-requires
+links-with-requires : tie.Need-links_with-requires
 links-with-requires c κs = (search towns, (emptied 8192 refl refl (omega arith) refl, emptied 8192 refl refl (omega arith) refl))
 
-pub links-few-spec : {M : Type 1} → statement M
-links-few-spec =
+pub links_few_spec : {M : Type 1} → statement M
+links_few_spec =
     tie.close
     (tie.spec
     (λ c. search towns)

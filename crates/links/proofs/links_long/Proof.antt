@@ -3,8 +3,8 @@ use Rattle.links.proofs.Rules.{towns}
 use Rattle.links.proofs.links_long.Statement.{statement}
 use Rattle.links.proofs.links_long.Tie as tie
 
-pub links-long-spec : {M : Type 1} → statement M
-links-long-spec =
+pub links_long_spec : {M : Type 1} → statement M
+links_long_spec =
     tie.close
     (tie.spec
     (λ c κs. search towns)

@@ -5,11 +5,11 @@ use Rattle.links.proofs.Rules.{towns}
 use Rattle.links.proofs.links_many.Statement.{statement}
 use Rattle.links.proofs.links_many.Tie as tie
 
-links-with-requires : tie.Need-links-with-requires
+links-with-requires : tie.Need-links_with-requires
 links-with-requires c κs = (search towns, (emptied 131072 refl refl (search towns) refl, emptied 131072 refl refl (search towns) refl))
 
-pub links-many-spec : {M : Type 1} → statement M
-links-many-spec =
+pub links_many_spec : {M : Type 1} → statement M
+links_many_spec =
     tie.close
     (tie.spec
     (λ c. search towns)

@@ -3,8 +3,8 @@ use Rattle.links.proofs.Rules.{towns}
 use Rattle.links.proofs.links_short.Statement.{statement}
 use Rattle.links.proofs.links_short.Tie as tie
 
-pub links-short-spec : {M : Type 1} → statement M
-links-short-spec =
+pub links_short_spec : {M : Type 1} → statement M
+links_short_spec =
     tie.close
     (tie.spec
     (λ c κs. search towns)

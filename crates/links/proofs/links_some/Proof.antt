@@ -6,11 +6,11 @@ use Rattle.links.proofs.Rules.{towns}
 use Rattle.links.proofs.links_some.Statement.{statement}
 use Rattle.links.proofs.links_some.Tie as tie
 
-links-with-requires : tie.Need-links-with-requires
+links-with-requires : tie.Need-links_with-requires
 links-with-requires c κs = (search towns, (emptied 25600 refl refl (omega arith) refl, emptied 25600 refl refl (omega arith) refl))
 
-pub links-some-spec : {M : Type 1} → statement M
-links-some-spec =
+pub links_some_spec : {M : Type 1} → statement M
+links_some_spec =
     tie.close
     (tie.spec
     (λ c. search towns)

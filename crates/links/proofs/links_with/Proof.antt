@@ -3,8 +3,8 @@ use Rattle.links.proofs.Rules.{towns}
 use Rattle.links.proofs.links_with.Statement.{statement}
 use Rattle.links.proofs.links_with.Tie as tie
 
-pub links-with-spec : {M : Type 1} → statement M
-links-with-spec =
+pub links_with_spec : {M : Type 1} → statement M
+links_with_spec =
     tie.close
     (tie.spec
     (λ c κs. search towns)

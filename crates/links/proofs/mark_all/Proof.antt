@@ -3,8 +3,8 @@ use Rattle.links.proofs.Rules.{sweeping}
 use Rattle.links.proofs.mark_all.Statement.{statement}
 use Rattle.links.proofs.mark_all.Tie as tie
 
-pub mark-all-spec : {M : Type 1} → statement M
-mark-all-spec =
+pub mark_all_spec : {M : Type 1} → statement M
+mark_all_spec =
     tie.close
     (tie.spec
     (λ c κs. search sweeping)

@@ -4,11 +4,11 @@ use Rattle.links.proofs.Rules.{towns}
 use Rattle.links.proofs.mark_both.Statement.{statement}
 use Rattle.links.proofs.mark_both.Tie as tie
 
-mark-all-requires : tie.Need-mark-all-requires
+mark-all-requires : tie.Need-mark_all-a-requires
 unfolding ascii
 mark-all-requires c κs = search towns
 
-mark-all-requires-2 : tie.Need-mark-all-requires-2
+mark-all-requires-2 : tie.Need-mark_all-requires
 unfolding ascii
 mark-all-requires-2 c κs = search towns
 
@@ -16,14 +16,8 @@ returns : tie.Need-returns
 unfolding ascii
 returns c = search towns
 
-pub mark-both-spec : {M : Type 1} → statement M
-mark-both-spec =
+pub mark_both_spec : {M : Type 1} → statement M
+mark_both_spec =
     tie.close
     (tie.spec
-    (λ c. search towns)
-    mark-all-requires
-    (λ c. search towns)
-    mark-all-requires-2
-    (λ c. search towns)
-    (λ c. search towns)
-    returns)
+    mark-all-requires mark-all-requires-2 (λ c. search towns) (λ c. search towns) returns)

@@ -3,8 +3,8 @@ use Rattle.links.proofs.Rules.{linking}
 use Rattle.links.proofs.open_all.Statement.{statement}
 use Rattle.links.proofs.open_all.Tie as tie
 
-pub open-all-spec : {M : Type 1} → statement M
-open-all-spec =
+pub open_all_spec : {M : Type 1} → statement M
+open_all_spec =
     tie.close
     (tie.spec
     (λ c κs. search linking)

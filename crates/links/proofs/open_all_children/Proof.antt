@@ -7,14 +7,14 @@ use Rattle.links.proofs.Rules.{linking}
 use Rattle.links.proofs.open_all_children.Statement.{statement}
 use Rattle.links.proofs.open_all_children.Tie as tie
 
-abbrev invariant-loop : tie.invariant-loop
+abbrev invariant-loop : tie.invariant-loop-k
 invariant-loop text table offsets rows set best least₀ k₀ least k = Sweeping text table offsets open_children best k least
 
-abbrev decreases-loop : tie.decreases-loop
+abbrev decreases-loop : tie.decreases-loop-k
 decreases-loop text table offsets rows set best least₀ k₀ least k = length offsets - k
 
-pub open-all-children-spec : {M : Type 1} → statement M
-open-all-children-spec =
+pub open_all_children_spec : {M : Type 1} → statement M
+open_all_children_spec =
     tie.close
     (tie.spec
     invariant-loop

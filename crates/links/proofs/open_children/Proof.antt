@@ -3,8 +3,8 @@ use Rattle.links.proofs.Rules.{linking}
 use Rattle.links.proofs.open_children.Statement.{statement}
 use Rattle.links.proofs.open_children.Tie as tie
 
-pub open-children-spec : {M : Type 1} → statement M
-open-children-spec =
+pub open_children_spec : {M : Type 1} → statement M
+open_children_spec =
     tie.close
     (tie.spec
     (λ c κs. search linking)

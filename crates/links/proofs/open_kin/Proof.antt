@@ -4,20 +4,16 @@ use Rattle.links.proofs.Rules.{opens}
 use Rattle.links.proofs.open_kin.Statement.{statement}
 use Rattle.links.proofs.open_kin.Tie as tie
 
-open-member-requires : tie.Need-open-member-requires
+open-member-requires : tie.Need-open_member-requires
 unfolding ascii
 open-member-requires c κs = search opens
 
-returns-2 : tie.Need-returns-2
+returns-2 : tie.Need-returns
 unfolding ascii
 returns-2 c = search opens
 
-pub open-kin-spec : {M : Type 1} → statement M
-open-kin-spec =
+pub open_kin_spec : {M : Type 1} → statement M
+open_kin_spec =
     tie.close
     (tie.spec
-    (λ c κs. search opens)
-    (λ c. search opens)
-    (λ c. search opens)
-    open-member-requires
-    returns-2)
+    (λ c κs. search opens) (λ c. search opens) open-member-requires returns-2)

@@ -6,20 +6,20 @@ use Rattle.links.proofs.Rules.{opening}
 use Rattle.links.proofs.open_list.Statement.{statement}
 use Rattle.links.proofs.open_list.Tie as tie
 
-abbrev invariant-loop : tie.invariant-loop
+abbrev invariant-loop : tie.invariant-loop-k
 invariant-loop text table i numbers set own best n least₀ k₀ j₀ least k j = Opening text table i numbers set own best n k j least
 
-abbrev decreases-loop : tie.decreases-loop
+abbrev decreases-loop : tie.decreases-loop-k
 decreases-loop text table i numbers set own best n least₀ k₀ j₀ least k j = n - k
 
-next-requires-2 : tie.Need-next-requires-2 invariant-loop decreases-loop
-next-requires-2 c κs = opening-next c.before.before.loop.invariant c.before.loop-test.true
+next-requires-2 : tie.Need-next-next-requires invariant-loop decreases-loop
+next-requires-2 c κs = opening-next c.loop-k.invariant c.loop-k-test.true
 
-add-j : tie.Need-overflow-add-j invariant-loop decreases-loop
-add-j c = omega (arith, opening-word c.before.before.before.loop.invariant c.before.before.loop-test.true)
+add-j : tie.Need-overflow_add-j invariant-loop decreases-loop
+add-j c = omega (arith, opening-word c.loop-k.invariant c.loop-k-test.true)
 
-pub open-list-spec : {M : Type 1} → statement M
-open-list-spec =
+pub open_list_spec : {M : Type 1} → statement M
+open_list_spec =
     tie.close
     (tie.spec
     invariant-loop

@@ -3,8 +3,8 @@ use Rattle.links.proofs.Rules.{opens}
 use Rattle.links.proofs.open_member.Statement.{statement}
 use Rattle.links.proofs.open_member.Tie as tie
 
-pub open-member-spec : {M : Type 1} → statement M
-open-member-spec =
+pub open_member_spec : {M : Type 1} → statement M
+open_member_spec =
     tie.close
     (tie.spec
     (λ c κs. search opens)

@@ -3,8 +3,8 @@ use Rattle.links.proofs.Rules.{linking}
 use Rattle.links.proofs.open_parents.Statement.{statement}
 use Rattle.links.proofs.open_parents.Tie as tie
 
-pub open-parents-spec : {M : Type 1} → statement M
-open-parents-spec =
+pub open_parents_spec : {M : Type 1} → statement M
+open_parents_spec =
     tie.close
     (tie.spec
     (λ c κs. search linking)

@@ -1,5 +1,6 @@
 -- `repeats::in_chain` meets its contract.
 use mathlib.Core.Logic.{⊎_elim}
+use Rattle.std.proofs.lemmas.Bool.{not_from_true}
 use Rattle.repeats.proofs.Links.{Follows, follow-again, follow-apart, follows}
 use Rattle.repeats.proofs.in_chain.Statement.{statement}
 use Rattle.repeats.proofs.in_chain.Tie as tie
@@ -16,10 +17,10 @@ loop-again c =
     ⊎_elim
     (λ w.
     follow-again (search) (search) c.start-from2.ensures c.end-to2.ensures (search) (search)
-    w.1.ensures w.2.false c.link-e.ensures)
+    w.same_string.ensures w.if-same_string.false c.link-e.ensures)
     (λ w.
     follow-apart (search) (search) c.start-from2.ensures c.end-to2.ensures (search) (search)
-    c.apart.ensures w.false c.link-e.ensures)
+    c.apart.ensures (not_from_true _ w.if-not-apart.false) c.link-e.ensures)
     c.if-not-apart.branch-raw
 
 pub in_chain_spec : {M : Type 1} → statement M

@@ -1,6 +1,7 @@
 -- `repeats::repeats` meets its contract.
 use Prim.Native.Nat.{◌-◌}
 use mathlib.Core.Logic.{⊎_elim}
+use Rattle.std.proofs.lemmas.Bool.{not_from_true}
 use Rattle.repeats.proofs.Rule6.{Compares, compare-again, compare-apart, names}
 use Rattle.repeats.proofs.repeats.Statement.{statement}
 use Rattle.repeats.proofs.repeats.Tie as tie
@@ -17,10 +18,10 @@ loop-again c =
     ⊎_elim
     (λ w.
     compare-again (search) (search) c.start-from2.ensures c.end-to2.ensures (search) (search)
-    w.1.ensures w.2.false c.next-j.ensures)
+    w.same_string.ensures w.if-same_string.false c.next-j.ensures)
     (λ w.
     compare-apart (search) (search) c.start-from2.ensures c.end-to2.ensures (search) (search)
-    c.apart.ensures w.false c.next-j.ensures)
+    c.apart.ensures (not_from_true _ w.if-not-apart.false) c.next-j.ensures)
     c.if-not-apart.branch-raw
 
 pub repeats_spec : {M : Type 1} → statement M

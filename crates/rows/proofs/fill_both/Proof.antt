@@ -20,10 +20,4 @@ pub fill_both_spec : {M : Type 1} → statement M
 fill_both_spec =
     tie.close
     (tie.spec
-    (λ c. search whole)
-    fill-rows-requires
-    (λ c. search whole)
-    fill-rows-requires-2
-    (λ c. search whole)
-    (λ c. search whole)
-    returns)
+    fill-rows-requires fill-rows-requires-2 (λ c. search whole) (λ c. search whole) returns)

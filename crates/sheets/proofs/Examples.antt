@@ -12,7 +12,8 @@ use Rattle.model.specs.Model.{lay_rec, lay_three, lay_decimal, minor_code, lod_c
 use Rattle.model.specs.Read.{or_null, get, zero_if_none, decimal_of, integer_of, natural, index_of, value_of, three_of, nest_of, minor_of, lod_of, surface_named, surface_of, semantics_of, geometry_of, object_of}
 use Rattle.model.specs.Read as read
 use Rattle.verdict.specs.Verdict.{accepted, verdict}
-use Rattle.sheets.specs.Characters.{WholeTexts, whole-model}
+use Rattle.sheets.specs.Characters.{WholeTexts}
+use Rattle.sheets.proofs.Characters.{whole-model}
 use Rattle.sheets.specs.Laid.{Answer, laid, refused, answer, model_of_text, sheet_of_text, room_after}
 
 -- opening this opens all that an answer and a sheet need

@@ -1,10 +1,10 @@
 -- The texts of model's AlikeExamples are accepted, and the alike ones have one answer in every room, by computation.
 use Rattle.std.specs.Prelude.{ℕ, ◌≡◌, refl}
 use Rattle.verdict.specs.Verdict.{accepted, verdict}
-use Rattle.model.specs.AlikeExamples.{bare, bare-respelled, building, building-respelled, building-alike}
+use Rattle.model.proofs.AlikeExamples.{bare, bare-respelled, building, building-respelled, building-alike}
 use Rattle.sheets.specs.Laid.{laid, answer, room_after}
-use Rattle.sheets.specs.Examples.{lays}
-use Rattle.sheets.specs.Theorems.{alike-rooms}
+use Rattle.sheets.proofs.Examples.{lays}
+use Rattle.sheets.proofs.Theorems.{alike-rooms}
 
 bare-laid : lays bare 65536 ≡ laid 78 0
 unfolding lays bare

@@ -21,7 +21,7 @@ use Rattle.strings.specs.Strings.{decode}
 use Rattle.json_text.specs.Tree.{Json, null, bool, num, str, arr, obj, Items, no_items, ◌▸◌, Members, empty, member}
 use Rattle.nodes.specs.Access.{Member, listed, pairs, elements, members, name_of, text_of, first_named, find}
 use Rattle.model.specs.Read.{get, or_null, integer_of, index_of, value_of, three_of, nest_of, surface_named, surface_of, semantics_of, geometry_of, object_of, model_of}
-use Rattle.model.specs.Weigh.{length-le, length-signed, weight, weight-cons, weight-append}
+use Rattle.model.proofs.Weigh.{length-le, length-signed, weight, weight-cons, weight-append}
 
 -- how many bytes a value takes in a text, at the least: a bracket or a comma stands before each element and each member, and a name has two quotes and a colon
 unfoldable mutual
@@ -118,14 +118,14 @@ find-size : (n : String) (j : Json) → found (find n j) < size j
 unfolding find
 find-size n j = omega (arith, first-size (ascii n) (members j), members-size j)
 
-orNull-size : (o : Option Json) (n : ℕ) → 1 ≤ n → found o ≤ n → size (or_null o) ≤ n
+or_null-size : (o : Option Json) (n : ℕ) → 1 ≤ n → found o ≤ n → size (or_null o) ≤ n
 unfolding or_null found size
-orNull-size option.none n h k = h
-orNull-size (some j) n h k = k
+or_null-size option.none n h k = h
+or_null-size (some j) n h k = k
 
 pub get-size : (n : String) (j : Json) → size (get n j) ≤ size j
 unfolding get
-get-size n j = orNull-size (find n j) (size j) (size-pos j) (omega (arith, find-size n j))
+get-size n j = or_null-size (find n j) (size j) (size-pos j) (omega (arith, find-size n j))
 
 -- ---- what stands in a value is no larger
 

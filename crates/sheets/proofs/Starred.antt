@@ -2,7 +2,7 @@
 use Rattle.std.specs.Prelude.{ℕ, ◌≡◌, refl, List, [], ◌∷◌, map, replicate}
 use Rattle.utf8.specs.Ascii.{ascii}
 use Rattle.sheets.specs.Laid.{Answer, laid, refused, answer}
-use Rattle.sheets.specs.Examples.{lays, minimal}
+use Rattle.sheets.proofs.Examples.{lays, minimal}
 
 -- a text, and what the lister answers for it
 abbrev pub Reading : Type 0

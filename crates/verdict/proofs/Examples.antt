@@ -6,7 +6,8 @@ use Rattle.utf8.specs.Ascii.{ascii, is_digit}
 use Rattle.json_text.specs.Tree.{◌◂◌, with}
 use Rattle.json_text.specs.Machine.{step, want_step, got_step, next_step, name_step, mant_step, nought_step, is_blank, is_hex, is_escape}
 use Rattle.verdict.specs.Verdict.{Verdict, accepted, refused, verdict}
-use Rattle.verdict.specs.Exact.{Least, refused-least}
+use Rattle.verdict.specs.Exact.{Least}
+use Rattle.verdict.proofs.Exact.{refused-least}
 
 -- opening this opens all that a verdict needs
 unfoldable pub judges : List ℕ → Verdict

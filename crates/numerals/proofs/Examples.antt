@@ -4,7 +4,8 @@ use Rattle.std.proofs.Common.{ap, arith}
 use Rattle.std.proofs.Math.Option.{none, some}
 use Rattle.utf8.specs.Ascii.{ascii}
 use Rattle.numerals.specs.Numerals.{decimal, pair_of, is_integer, integer, fits32, is_below}
-use Rattle.numerals.specs.Values.{as_written, SameValue, by_value}
+use Rattle.numerals.specs.Values.{as_written, SameValue}
+use Rattle.numerals.proofs.Values.{by_value}
 
 one-point-nought : pair_of (ascii "1.0") ≡ some (record { m = pos 1; e = pos 0 })
 unfolding pair_of ascii

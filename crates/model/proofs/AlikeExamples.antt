@@ -13,7 +13,7 @@ use Rattle.nodes.specs.Access.{is_null_value, is_number_value, is_string_value, 
 use Rattle.model.specs.Model.{Three}
 use Rattle.model.specs.Read.{get, or_null, maybe_decimal, zero_if_none, decimal_of, integer_of, natural, three_of, model_of}
 use Rattle.model.specs.Alike.{Agree, surface_shape, semantics_shape, geometry_shape, object_shape, transform_shape, root_shape, Alike, same_text, alike-same-model}
-use Rattle.model.specs.AlikeTest.{agrees, agrees-agree}
+use Rattle.model.proofs.AlikeTest.{agrees, agrees-agree}
 
 -- ---- the texts
 

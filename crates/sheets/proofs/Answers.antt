@@ -18,9 +18,10 @@ use Rattle.rules.specs.Schema.{city_json}
 use Rattle.rules.specs.Links.{link_faults}
 use Rattle.verdict.specs.Verdict.{Verdict, accepted, faults, end_of_fault, given, judged, parsed, screening, verdict}
 use Rattle.verdict.specs.Verdict as judge
-use Rattle.verdict.specs.Exact.{Clean, accepted-clean}
+use Rattle.verdict.specs.Exact.{Clean}
+use Rattle.verdict.proofs.Exact.{accepted-clean}
 use Rattle.model.specs.Good.{GoodModel}
-use Rattle.model.specs.Size.{size}
+use Rattle.model.proofs.Size.{size}
 use Rattle.sheets.specs.Laid.{model_of_text, sheet_of_text, Answer, laid, refused, fitted, answer, filled, room_after}
 use Rattle.sheets.specs.Clear.{nil-left, nil-right}
 use Rattle.sheets.specs.Short.{tree-within}

@@ -3,7 +3,7 @@ use Rattle.std.specs.Prelude.{ℕ, ◌≡◌, List, length}
 use Rattle.utf8.specs.Utf8.{encode}
 use Rattle.utf8.specs.Rows.{row, Matches, Begins}
 use Rattle.utf8.specs.Laws.{form}
-use Rattle.utf8.specs.RowLaws.{matches-fits, row_is, row-of, only-match}
+use Rattle.utf8.proofs.RowLaws.{matches-fits, row_is, row-of, only-match}
 
 -- what matches a row begins with a character that is as long as the row
 pub row-character : (k : ℕ) (text : List ℕ) → Matches k text → (c : ℕ) × Begins c text × (length (row k) ≡ length (encode c))

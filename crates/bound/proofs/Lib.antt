@@ -1,0 +1,2 @@
+-- That the room suffices, whatever the text.
+pub mod Bound

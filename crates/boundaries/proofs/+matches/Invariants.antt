@@ -1,0 +1,14 @@
+-- `boundaries::matches` meets its contract. The measure is the depth.
+use Rattle.std.proofs.Common.{◌-◌}
+use Rattle.shapes.specs.Shapes as shape
+use Rattle.boundaries.proofs.Both.{Both}
+use Rattle.boundaries.proofs.+matches.Given as goal
+
+abbrev pub decreases-matches : goal.decreases-matches
+decreases-matches l = l.depth
+
+abbrev pub invariant-loop-k : goal.invariant-loop-k
+invariant-loop-k l = Both (shape.matches (l.depth - 1)) l.text l.table l.b l.v l.best l.n l.j l.k l.least
+
+abbrev pub decreases-loop-k : goal.decreases-loop-k
+decreases-loop-k l = l.n - l.k
