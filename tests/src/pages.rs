@@ -97,9 +97,11 @@ pub fn defines(specification: &str, name: &str) -> bool {
     })
 }
 
-/// Whether the specifications of a crate define a name.
+/// Whether the specifications of a crate define a name, or its theorems about them, which stand
+/// in `proofs/`.
 pub fn specifies(place: &str, name: &str) -> bool {
-    defines(&folder(&root().join(format!("crates/{place}/specs"))), name)
+    let parts = ["specs", "proofs"];
+    parts.iter().any(|part| defines(&folder(&root().join(format!("crates/{place}/{part}"))), name))
 }
 
 /// The labels of the must-fail edits of a crate.
