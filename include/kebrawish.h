@@ -1,7 +1,7 @@
 /*
  * Kebrawish: judges one CityJSON 2.0 text and lays it out as a flat byte sheet.
  *
- * Build the library with `rt staticlib kebrawish` and link target/staticlib/libkebrawish.a
+ * Build the library with `tools/archive.sh` and link target/staticlib/libkebrawish.a
  * (x86-64). Of other libraries it needs C's memcpy and memset alone. It allocates nothing,
  * keeps nothing between calls, so that threads may call it at once. A call takes at most
  * 1,440 KiB of stack, or at most 165 KiB for a text of at most 4,096 bytes, as measured

@@ -12,11 +12,11 @@ use std::process::{Command, Output, Stdio};
 
 use common::{check, lines, Desk};
 
-/// In place of `rt`: says how it was called, and takes a moment.
+/// In place of `rt`: says how it was called, takes a moment, and writes an archive in the crate's folder.
 const RT: &str = "#!/bin/sh
 echo \"rt $*, input $(cat)\"
 sleep 0.2
-test ! -e fails
+test ! -e ../../fails && mkdir -p out && touch out/libkebrawish.a
 ";
 
 /// In place of `cargo`: says how it was called, and writes a program that says how it was called.
@@ -34,7 +34,7 @@ chmod +x target/desk/release/kebrawish
 
 const BUILDING: [&str; 3] = [
     "kebrawish: proving and building it (some minutes if nothing is proved yet)",
-    "rt staticlib kebrawish, input ",
+    "rt lib --cpu x86-64, input ",
     "cargo build, target/staticlib",
 ];
 
@@ -53,12 +53,13 @@ fn repository(name: &str) -> Desk {
         "crates/one/src",
         "crates/one/specs",
         "crates/one/proofs",
+        "crates/kebrawish",
         "rust/kebrawish/src",
         "desk/src",
     ] {
         fs::create_dir_all(desk.folder.join(folder)).expect("a folder");
     }
-    for file in ["kebrawish", "tools/first-use.sh"] {
+    for file in ["kebrawish", "tools/first-use.sh", "tools/archive.sh"] {
         fs::copy(here.join(file), desk.folder.join(file)).expect("a copy");
     }
     write_program(desk.folder.join("commands/rt"), RT);

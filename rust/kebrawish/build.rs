@@ -17,9 +17,9 @@ fn main() {
     println!("cargo:rerun-if-changed={}", archive.display());
     if !archive.is_file() {
         eprintln!(
-            "There is no {}. `rt staticlib kebrawish` at the root of Kebrawish's repository \
-             proves the library and writes it to target/staticlib (rt is the command of the \
-             Rattle toolchain). {VARIABLE} names another folder that has it.",
+            "There is no {}. `tools/archive.sh` at the root of Kebrawish's repository proves the \
+             library and writes it to target/staticlib (it needs rt, the command of the Rattle \
+             toolchain). {VARIABLE} names another folder that has it.",
             archive.display()
         );
         exit(1);

@@ -75,7 +75,8 @@ pub fn is_name(text: &str) -> bool {
 pub fn crates() -> Vec<String> {
     let list = fs::read_to_string(root().join("crates.txt")).expect("the crates");
     let lines = list.lines().filter(|line| !line.starts_with('#'));
-    lines.filter_map(|line| Some(line.split_once(':')?.0.to_string())).collect()
+    // A static library's line has a word after the name.
+    lines.filter_map(|line| Some(line.split_once([' ', ':'])?.0.to_string())).collect()
 }
 
 /// The text of a folder's files, or nothing where it is missing.
@@ -96,9 +97,11 @@ pub fn defines(specification: &str, name: &str) -> bool {
     })
 }
 
-/// Whether the specifications of a crate define a name.
+/// Whether the specifications of a crate define a name, or its theorems about them, which stand
+/// in `proofs/`.
 pub fn specifies(place: &str, name: &str) -> bool {
-    defines(&folder(&root().join(format!("crates/{place}/specs"))), name)
+    let parts = ["specs", "proofs"];
+    parts.iter().any(|part| defines(&folder(&root().join(format!("crates/{place}/{part}"))), name))
 }
 
 /// The labels of the must-fail edits of a crate.

@@ -14,14 +14,15 @@ fn source(file: &str) -> String {
     fs::read_to_string(root().join(file)).expect(file)
 }
 
-/// The file of specifications that a line `use Rattle·NAME.specs.FILE..` names: of another
-/// crate, or of its own with `·specs` after the name. What the code declares is in none.
+/// The file of specifications of a crate here that a line `use Rattle.NAME.specs.FILE..` names.
+/// What the code declares is in none, and what the library defines is the toolchain's.
 fn used(line: &str) -> Option<String> {
-    let (_, path) = line.split_once("use Rattle·")?;
+    let (_, path) = line.split_once("use Rattle.")?;
     let mut parts = path.split(['.', ' ']);
-    let name = parts.next()?.trim_end_matches("·specs").to_string();
+    let name = parts.next()?;
     let (_, file) = (parts.next()?, parts.next()?);
-    (file != "declared").then(|| format!("crates/{name}/specs/{file}.antt"))
+    let is_ours = root().join("crates").join(name).is_dir();
+    (is_ours && file != "declared").then(|| format!("crates/{name}/specs/{file}.antt"))
 }
 
 /// The files that a file uses.
@@ -33,13 +34,14 @@ fn uses(file: &str) -> Vec<String> {
 fn believed() -> BTreeSet<String> {
     let exports = source("crates/kebrawish/src/lib.rt");
     let (imports, _) = exports.split_once("\nuse ").expect("the imports");
-    let (_, exported) = exports.split_once("#[no_mangle]").expect("the exports");
+    let (_, exported) = exports.split_once("#[unsafe(no_mangle)]").expect("the exports");
     let contracts: String = exported.lines().filter(|line| line.contains("ensures")).collect();
-    let words: BTreeSet<&str> = contracts.split(|c: char| !c.is_alphanumeric()).collect();
+    let apart = |c: char| !c.is_alphanumeric() && c != '_';
+    let words: BTreeSet<&str> = contracts.split(apart).collect();
     let mut open: Vec<String> = Vec::new();
     for line in imports.lines() {
         let names = line.split_once('{').map_or("", |(_, names)| names);
-        let mut names = names.split(|c: char| !c.is_alphanumeric());
+        let mut names = names.split(apart);
         if names.any(|name| !name.is_empty() && words.contains(name)) {
             open.extend(used(line));
         }

@@ -5,13 +5,15 @@
 use kebrawish_tests::pages::{crates, defines, edits, folder, is_name, page, quoted, root};
 use std::fs;
 
-/// Whether `crate/File: a, b` names definitions of that file, `crate::function` one function
+/// Whether `crate/File: a, b` names definitions or theorems of that file, which stands in `specs/`
+/// or `proofs/` or in both, `crate::function` one function
 /// of the crate's sources, and `file::test` one test. None for what is no such name.
 fn exists(quoted: &str) -> Option<bool> {
     if let Some((file, names)) = quoted.split_once(": ") {
         let (name, file) = file.split_once('/')?;
-        let file = root().join(format!("crates/{name}/specs/{file}.antt"));
-        let text = fs::read_to_string(file).unwrap_or_default();
+        let parts = ["specs", "proofs"];
+        let files = parts.map(|part| root().join(format!("crates/{name}/{part}/{file}.antt")));
+        let text = files.map(|file| fs::read_to_string(file).unwrap_or_default()).concat();
         return Some(names.split(", ").all(|name| defines(&text, name)));
     }
     let (place, name) = quoted.split_once("::")?;

@@ -1,61 +1,57 @@
 // Reads a text on standard input, lays it in a sheet of 65,536 bytes and prints one line, as `laid 78 bytes, objects 0` or `refused 8 at 0 to 2`.
-// The library `listing` has all of it but the calls of the system. Where reading or writing fails, standard error says why, and no line is printed.
+// The library `listing` has all of it but the calls of the system. Where reading or writing fails, standard error says why, no line is printed,
+// and the status is 1.
 #![tactic(auto)]
 
 ghost use Rattle.io.specs.Counts.{IsPrefixLen};
 
-use libc::{STDIN_FILENO, STDOUT_FILENO};
+use anyhow::{Result, anyhow};
+use std::io::{Read, Write};
 
-// How many bytes were read, and whether reading them failed.
+// How many bytes were read, and why no more could be, if that failed.
 #[derive(Drop)]
 struct Input {
     size: usize,
-    is_failed: bool,
+    end: std::io::Result<()>,
 }
 
 // Reads until the room is full or the input ends.
-fn read(room: &mut [u8]) -> Input
+fn read(from: &mut impl Read, room: &mut [u8]) -> Input
     ensures { IsPrefixLen result.size room.new }
 {
     let mut done = 0;
     while done < room.len() {
-        let rest = &mut room[done..];
-        let got = libc::read(STDIN_FILENO, rest);
-        if got < 0 {
-            return Input {
-                size: done,
-                is_failed: true,
-            };
+        match from.read(&mut room[done..]) {
+            Ok(0) => break,
+            Ok(more) => done += more,
+            Err(error) => {
+                return Input {
+                    size: done,
+                    end: Err(error),
+                };
+            }
         }
-        let more = io::count(got, rest);
-        if more == 0 {
-            break;
-        }
-        done += more;
     }
     Input {
         size: done,
-        is_failed: false,
+        end: Ok(()),
     }
 }
 
 // Prints the line of a text.
-fn print(text: &[u8]) {
+fn print(rt: &impl Print, text: &[u8]) -> std::io::Result<()> {
     let mut line = [0u8; 80];
     let n = listing::list(text, &mut line);
-    if !io::write_all(STDOUT_FILENO, &line[..n]) {
-        os::fail(b"lister: standard output");
-    }
+    std::io::writer(rt).write_all(&line[..n])
 }
 
 // A text of 65,536 bytes is too long already, so that no more has to be read.
-fn main() {
+fn main(rt: HostRuntime) -> Result<()> {
     let mut room = [0u8; 65536];
-    let input = read(&mut room);
-    if input.is_failed {
-        os::fail(b"lister: standard input");
-        return;
-    }
+    let input = read(&mut rt.stdin(), &mut room);
     let n = input.size;
-    print(&room[..n]);
+    if let Err(error) = input.end {
+        return Err(anyhow!("lister: standard input: {error}"));
+    }
+    print(&rt, &room[..n]).map_err(|error| anyhow!("lister: standard output: {error}"))
 }

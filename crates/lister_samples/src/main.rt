@@ -2,13 +2,13 @@
 // prints for each.
 #![tactic(auto)]
 
-use libc::STDOUT_FILENO;
+use std::io::{self, Write};
 
 // Prints the line of a text.
-fn show(text: &[u8]) {
+fn show(rt: &impl Print, text: &[u8]) -> io::Result<()> {
     let mut line = [0u8; 80];
     let n = listing::list(text, &mut line);
-    io::write_all(STDOUT_FILENO, &line[..n]);
+    io::writer(rt).write_all(&line[..n])
 }
 
 // Opens an array at every byte.
@@ -21,65 +21,67 @@ fn open(text: &mut [u8]) {
 }
 
 // Not JSON, and not UTF-8.
-fn no_json() {
-    show(b"");
-    show(b"tru");
-    show(b"01");
-    show(b"\xFF");
+fn no_json(rt: &impl Print) -> io::Result<()> {
+    show(rt, b"")?;
+    show(rt, b"tru")?;
+    show(rt, b"01")?;
+    show(rt, b"\xFF")
 }
 
 // As deep as is allowed, and one level deeper.
-fn depth() {
-    show(&[b'['; 32]);
-    show(&[b'['; 33]);
+fn depth(rt: &impl Print) -> io::Result<()> {
+    show(rt, &[b'['; 32])?;
+    show(rt, &[b'['; 33])
 }
 
 // Strings and names.
-fn names() {
-    show(b"\"\\uD800\"");
-    show(b"{\"type\":1,\"type\":1}");
-    show(b"{\"\\u0061\":1,\"a\":2}");
+fn names(rt: &impl Print) -> io::Result<()> {
+    show(rt, b"\"\\uD800\"")?;
+    show(rt, b"{\"type\":1,\"type\":1}")?;
+    show(rt, b"{\"\\u0061\":1,\"a\":2}")
 }
 
 // Kinds and members.
-fn kinds() {
-    show(b"{\"type\":1}");
-    show(b"[]");
-    show(b" {}");
+fn kinds(rt: &impl Print) -> io::Result<()> {
+    show(rt, b"{\"type\":1}")?;
+    show(rt, b"[]")?;
+    show(rt, b" {}")
 }
 
 // 32 arrays, one in the other.
-fn nested() {
+fn nested(rt: &impl Print) -> io::Result<()> {
     let mut space = [b']'; 64];
     let text: &mut [u8] = &mut space;
     open(&mut text[..32]);
-    show(text);
+    show(rt, text)
 }
 
 // The minimal CityJSON object.
-fn minimal() {
+fn minimal(rt: &impl Print) -> io::Result<()> {
     show(
+        rt,
         b"{\"type\":\"CityJSON\",\"version\":\"2.0\",\"transform\":{\"scale\":[1.0,1.0,1.0],\"translate\":[0.0,0.0,0.0]},\"CityObjects\":{},\"vertices\":[]}",
-    );
+    )
 }
 
 // One CityFurniture with a MultiPoint over one vertex.
-fn kiosk() {
+fn kiosk(rt: &impl Print) -> io::Result<()> {
     show(
+        rt,
         b"{\"type\":\"CityJSON\",\"version\":\"2.0\",\"transform\":{\"scale\":[1.0,1.0,1.0],\"translate\":[0.0,0.0,0.0]},\
           \"CityObjects\":{\"kiosk\":{\"type\":\"CityFurniture\",\"geometry\":[{\"type\":\"MultiPoint\",\"lod\":\"1\",\"boundaries\":[0]}]}},\
           \"vertices\":[[7,-1,256]]}",
-    );
+    )
 }
 
-fn main() {
-    no_json();
-    depth();
-    names();
-    kinds();
-    nested();
-    minimal();
-    show(b"{\"a\":1,\"a\":2}");
-    show(b"{}");
-    kiosk();
+fn main(rt: HostRuntime) -> io::Result<()> {
+    no_json(&rt)?;
+    depth(&rt)?;
+    names(&rt)?;
+    kinds(&rt)?;
+    nested(&rt)?;
+    minimal(&rt)?;
+    show(&rt, b"{\"a\":1,\"a\":2}")?;
+    show(&rt, b"{}")?;
+    kiosk(&rt)
 }

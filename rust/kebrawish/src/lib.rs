@@ -29,7 +29,7 @@
 //!
 //! # Linking
 //!
-//! `rt staticlib kebrawish` at the repository's root proves the library and writes the archive to
+//! `tools/archive.sh` at the repository's root proves the library and writes the archive to
 //! `target/staticlib`, where this crate finds it; the environment variable `KEBRAWISH_STATICLIB`
 //! names another folder, by an absolute path. It is for x86-64 Linux. Archive and crate are of one version: a call
 //! panics if the library answers a rule that the crate does not know.

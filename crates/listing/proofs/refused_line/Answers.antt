@@ -1,0 +1,8 @@
+-- Three phrases and a line feed.
+use Rattle.listing.specs.Line.{line_of}
+use Rattle.listing.proofs.Rules.{lists}
+use Rattle.listing.proofs.refused_line.Goals as goal
+
+pub returns : goal.returns
+unfolding line_of
+returns c = search lists
