@@ -10,7 +10,7 @@ use Rattle.utf8.specs.Finite.{each_below}
 use Rattle.strings.specs.Strings.{hex_value}
 use Rattle.strings.specs.Laws.{cross}
 use Rattle.strings.specs.Characters.{Digit, Escaped}
-use Rattle.strings.proofs.Characters as escaped
+use Rattle.strings.specs.Characters as escaped
 use Rattle.json_text.specs.Tree.{Json, Items, Members, Name}
 use Rattle.json_text.specs.Machine.{is_hex, is_escape}
 use Rattle.json_text.specs.Grammar.{At, Chars, Text}

@@ -3,8 +3,8 @@ use Rattle.examining.proofs.Rules.{examines}
 use Rattle.examining.proofs.examine.Statement.{statement}
 use Rattle.examining.proofs.examine.Tie as tie
 
-pub examine-spec : {M : Type 1} → statement M
-examine-spec =
+pub examine_spec : {M : Type 1} → statement M
+examine_spec =
     tie.close
     (tie.spec
     (λ c κs. search examines)

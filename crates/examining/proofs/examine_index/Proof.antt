@@ -3,8 +3,8 @@ use Rattle.examining.proofs.Rules.{examines}
 use Rattle.examining.proofs.examine_index.Statement.{statement}
 use Rattle.examining.proofs.examine_index.Tie as tie
 
-pub examine-index-spec : {M : Type 1} → statement M
-examine-index-spec =
+pub examine_index_spec : {M : Type 1} → statement M
+examine_index_spec =
     tie.close
     (tie.spec
     (λ c. search examines)

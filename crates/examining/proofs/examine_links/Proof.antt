@@ -3,8 +3,8 @@ use Rattle.examining.proofs.Rules.{examines}
 use Rattle.examining.proofs.examine_links.Statement.{statement}
 use Rattle.examining.proofs.examine_links.Tie as tie
 
-pub examine-links-spec : {M : Type 1} → statement M
-examine-links-spec =
+pub examine_links_spec : {M : Type 1} → statement M
+examine_links_spec =
     tie.close
     (tie.spec
     (λ c κs. search examines)

@@ -3,8 +3,8 @@ use Rattle.examining.proofs.Rules.{opens}
 use Rattle.examining.proofs.screen.Statement.{statement}
 use Rattle.examining.proofs.screen.Tie as tie
 
-pub screen-spec : {M : Type 1} → statement M
-screen-spec =
+pub screen_spec : {M : Type 1} → statement M
+screen_spec =
     tie.close
     (tie.spec
     (λ c. search opens)

@@ -3,8 +3,8 @@ use Rattle.judging.proofs.Rules.{judges}
 use Rattle.judging.proofs.judge_in.Statement.{statement}
 use Rattle.judging.proofs.judge_in.Tie as tie
 
-pub judge-in-spec : {M : Type 1} → statement M
-judge-in-spec =
+pub judge_in_spec : {M : Type 1} → statement M
+judge_in_spec =
     tie.close
     (tie.spec
     (λ c κs. search judges)

@@ -6,10 +6,10 @@ use Rattle.judging.proofs.Rules.{rooms}
 use Rattle.judging.proofs.judge_small.Statement.{statement}
 use Rattle.judging.proofs.judge_small.Tie as tie
 
-judge-table-requires : tie.Need-judge-table-requires
+judge-table-requires : tie.Need-judge_table-requires
 judge-table-requires c κs =
-    let (tree, few) = c.before.before.before.before.requires in
+    let (tree, few) = c.requires in
     (tree, rows-room 2065 tree refl (omega arith) (omega arith), rows-room 2065 tree refl (omega arith) (omega arith))
 
-pub judge-small-spec : {M : Type 1} → statement M
-judge-small-spec = tie.close (tie.spec (λ c. search rooms) (λ c. search rooms) judge-table-requires (λ c. search rooms))
+pub judge_small_spec : {M : Type 1} → statement M
+judge_small_spec = tie.close (tie.spec (λ c. search rooms) (λ c. search rooms) judge-table-requires (λ c. search rooms))

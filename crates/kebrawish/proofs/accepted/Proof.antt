@@ -3,5 +3,5 @@ use Rattle.kebrawish.proofs.Bounds.{numbers}
 use Rattle.kebrawish.proofs.accepted.Statement.{statement}
 use Rattle.kebrawish.proofs.accepted.Tie as tie
 
-pub accepted-spec : {M : Type 1} → statement M
-accepted-spec = tie.close (tie.spec (λ c. search numbers) (λ c. search numbers) (λ c. search numbers))
+pub accepted_spec : {M : Type 1} → statement M
+accepted_spec = tie.close (tie.spec (λ c. search numbers) (λ c. search numbers) (λ c. search numbers))

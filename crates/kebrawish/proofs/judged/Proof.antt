@@ -3,5 +3,5 @@ use Rattle.kebrawish.proofs.Bounds.{numbers}
 use Rattle.kebrawish.proofs.judged.Statement.{statement}
 use Rattle.kebrawish.proofs.judged.Tie as tie
 
-pub judged-spec : {M : Type 1} → statement M
-judged-spec = tie.close (tie.spec (λ c. search numbers) (λ c κs. search numbers) (λ c. search numbers) (λ c κs. search numbers) (λ c. search numbers) (λ c. search numbers))
+pub judged_spec : {M : Type 1} → statement M
+judged_spec = tie.close (tie.spec (λ c. search numbers) (λ c κs. search numbers) (λ c. search numbers) (λ c κs. search numbers) (λ c. search numbers) (λ c. search numbers))

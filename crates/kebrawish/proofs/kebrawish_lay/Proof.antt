@@ -3,5 +3,5 @@ use Rattle.kebrawish.proofs.Bounds.{numbers}
 use Rattle.kebrawish.proofs.kebrawish_lay.Statement.{statement}
 use Rattle.kebrawish.proofs.kebrawish_lay.Tie as tie
 
-pub kebrawish-lay-spec : {M : Type 1} → statement M
-kebrawish-lay-spec = tie.close (tie.spec (λ c κs. search numbers) (λ c κs. search numbers) (λ c. search numbers) (λ c. search numbers))
+pub kebrawish_lay_spec : {M : Type 1} → statement M
+kebrawish_lay_spec = tie.close (tie.spec (λ c κs. search numbers) (λ c κs. search numbers) (λ c. search numbers) (λ c. search numbers))

@@ -5,16 +5,16 @@ use Rattle.laying.proofs.Sheets.{lays}
 use Rattle.laying.proofs.lay.Statement.{statement}
 use Rattle.laying.proofs.lay.Tie as tie
 
-lay-json-requires : tie.Need-lay-json-requires
-lay-json-requires c κs = (passed-short _ c.before.before.before.screen.ensures c.before.enum_told.given.1, (search (lays, zeroed)))
+lay-json-requires : tie.Need-lay_json-requires
+lay-json-requires c κs = (passed-short _ c.screen-screened.ensures c.in-Passed.is, (search (lays, zeroed)))
 
-returns : tie.Need-returns
+returns : tie.Need-returns-in-Passed
 returns c =
     let passed = c.before.before.before.before in
-    lay-answer (passed-lay passed.before.before.screen.ensures passed.enum_told.given.1 c.before.before.lay-json.ensures) (search lays)
+    lay-answer (passed-lay passed.screen-screened.ensures passed.in-Passed.is c.lay_json.ensures) (search lays)
 
-returns-2 : tie.Need-returns-2
-returns-2 c = lay-answer (refuses _ (screened-refused _ c.before.before.before.screen.ensures c.before.screened.given.1) (search (lays, zeroed))) (search lays)
+returns-2 : tie.Need-returns-in-Refused
+returns-2 c = lay-answer (refuses _ (screened-refused _ c.screen-screened.ensures c.in-Refused.is) (search (lays, zeroed))) (search lays)
 
-pub lay-spec : {M : Type 1} → statement M
-lay-spec = tie.close (tie.spec (λ c κs. search lays) (λ c κs. search lays) (λ c. search lays) lay-json-requires (λ c. search lays) (λ c. search lays) returns (λ c. search lays) returns-2)
+pub lay_spec : {M : Type 1} → statement M
+lay_spec = tie.close (tie.spec (λ c κs. search lays) (λ c κs. search lays) (λ c. search lays) lay-json-requires (λ c. search lays) (λ c. search lays) returns (λ c. search lays) returns-2)

@@ -5,8 +5,8 @@ use Rattle.laying.proofs.Sheets.{rooms}
 use Rattle.laying.proofs.lay_long.Statement.{statement}
 use Rattle.laying.proofs.lay_long.Tie as tie
 
-lay-in-requires : tie.Need-lay-in-requires
+lay-in-requires : tie.Need-lay_in-requires
 lay-in-requires c κs = (room-long (search rooms) refl, table-long refl, search rooms)
 
-pub lay-long-spec : {M : Type 1} → statement M
-lay-long-spec = tie.close (tie.spec (λ c. search rooms) lay-in-requires (λ c. search rooms) (λ c. search rooms))
+pub lay_long_spec : {M : Type 1} → statement M
+lay_long_spec = tie.close (tie.spec (λ c. search rooms) lay-in-requires (λ c. search rooms) (λ c. search rooms))

@@ -6,11 +6,11 @@ use Rattle.laying.proofs.Sheets.{rooms}
 use Rattle.laying.proofs.lay_middle.Statement.{statement}
 use Rattle.laying.proofs.lay_middle.Tie as tie
 
-lay-table-requires : tie.Need-lay-table-requires
+lay-table-requires : tie.Need-lay_table-requires
 lay-table-requires c κs =
     let begin = c.before.before in
-    let (tree, few, zeroes) = begin.before.before.before.before.requires in
+    let (tree, few, zeroes) = begin.requires in
     (tree, rows-room 16384 tree refl (omega arith) (omega arith), rows-room 16384 tree refl (omega arith) (omega arith), zeroes)
 
-pub lay-middle-spec : {M : Type 1} → statement M
-lay-middle-spec = tie.close (tie.spec (λ c. search rooms) (λ c. search rooms) lay-table-requires (λ c. search rooms) (λ c. search rooms))
+pub lay_middle_spec : {M : Type 1} → statement M
+lay_middle_spec = tie.close (tie.spec (λ c. search rooms) (λ c. search rooms) lay-table-requires (λ c. search rooms) (λ c. search rooms))

@@ -3,8 +3,8 @@ use Rattle.laying.proofs.Sheets.{lays}
 use Rattle.laying.proofs.lay_table.Statement.{statement}
 use Rattle.laying.proofs.lay_table.Tie as tie
 
-pub lay-table-spec : {M : Type 1} → statement M
-lay-table-spec =
+pub lay_table_spec : {M : Type 1} → statement M
+lay_table_spec =
     tie.close
     (tie.spec
     (λ c κs. search lays)

@@ -3,8 +3,8 @@ use Rattle.laying.proofs.Sheets.{rooms}
 use Rattle.laying.proofs.lay_tree.Statement.{statement}
 use Rattle.laying.proofs.lay_tree.Tie as tie
 
-pub lay-tree-spec : {M : Type 1} → statement M
-lay-tree-spec =
+pub lay_tree_spec : {M : Type 1} → statement M
+lay_tree_spec =
     tie.close
     (tie.spec
     (λ c κs. search rooms)

@@ -3,8 +3,8 @@ use Rattle.records.proofs.Rules.{sheets}
 use Rattle.records.proofs.frame.Statement.{statement}
 use Rattle.records.proofs.frame.Tie as tie
 
-pub frame-spec : {M : Type 1} → statement M
-frame-spec =
+pub frame_spec : {M : Type 1} → statement M
+frame_spec =
     tie.close
     (tie.spec
     (λ c κs. search sheets)

@@ -3,8 +3,8 @@ use Rattle.records.proofs.Rules.{links}
 use Rattle.records.proofs.link_record.Statement.{statement}
 use Rattle.records.proofs.link_record.Tie as tie
 
-pub link-record-spec : {M : Type 1} → statement M
-link-record-spec =
+pub link_record_spec : {M : Type 1} → statement M
+link_record_spec =
     tie.close
     (tie.spec
     (λ c κs. search links)

@@ -3,8 +3,8 @@ use Rattle.records.proofs.Rules.{whole}
 use Rattle.records.proofs.object.Statement.{statement}
 use Rattle.records.proofs.object.Tie as tie
 
-pub object-spec : {M : Type 1} → statement M
-object-spec =
+pub object_spec : {M : Type 1} → statement M
+object_spec =
     tie.close
     (tie.spec
     (λ c κs. search whole)

@@ -4,6 +4,7 @@ use Rattle.records.proofs.Rules.{records}
 use Rattle.records.proofs.object_code.Statement.{statement}
 use Rattle.records.proofs.object_code.Tie as tie
 
-pub object-code-spec : {M : Type 1} → statement M
+pub object_code_spec : {M : Type 1} → statement M
 unfolding ascii
-object-code-spec = tie.close (tie.spec (λ c. search records) (λ c κs. search records) (λ c κs. search records) (λ c. search records))
+object_code_spec = tie.close (tie.spec
+    (λ c κs. search records) (λ c κs. search records) (λ c. search records))

@@ -3,5 +3,5 @@ use Rattle.records.proofs.Rules.{records}
 use Rattle.records.proofs.pairs.Statement.{statement}
 use Rattle.records.proofs.pairs.Tie as tie
 
-pub pairs-spec : {M : Type 1} → statement M
-pairs-spec = tie.close (tie.spec (λ c κs. search records) (λ c κs. search records) (λ c. search records) (λ c. search records))
+pub pairs_spec : {M : Type 1} → statement M
+pairs_spec = tie.close (tie.spec (λ c κs. search records) (λ c κs. search records) (λ c. search records) (λ c. search records))

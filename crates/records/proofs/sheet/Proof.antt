@@ -3,8 +3,8 @@ use Rattle.records.proofs.Rules.{sheets}
 use Rattle.records.proofs.sheet.Statement.{statement}
 use Rattle.records.proofs.sheet.Tie as tie
 
-pub sheet-spec : {M : Type 1} → statement M
-sheet-spec =
+pub sheet_spec : {M : Type 1} → statement M
+sheet_spec =
     tie.close
     (tie.spec
     (λ c κs. search sheets)

@@ -4,8 +4,8 @@ use Rattle.records.proofs.Rules.{records}
 use Rattle.records.proofs.transform_body.Statement.{statement}
 use Rattle.records.proofs.transform_body.Tie as tie
 
-pub transform-body-spec : {M : Type 1} → statement M
+pub transform_body_spec : {M : Type 1} → statement M
 unfolding ascii
-transform-body-spec =
-    tie.close (tie.spec (λ c. search records) (λ c κs. search records) (λ c. search records) (λ c κs. search records) (λ c. search records)
-    (λ c. search records))
+transform_body_spec =
+    tie.close (tie.spec
+    (λ c κs. search records) (λ c κs. search records) (λ c. search records) (λ c. search records))

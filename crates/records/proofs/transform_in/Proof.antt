@@ -4,13 +4,9 @@ use Rattle.records.proofs.Rules.{sheets}
 use Rattle.records.proofs.transform_in.Statement.{statement}
 use Rattle.records.proofs.transform_in.Tie as tie
 
-pub transform-in-spec : {M : Type 1} → statement M
+pub transform_in_spec : {M : Type 1} → statement M
 unfolding ascii
-transform-in-spec =
+transform_in_spec =
     tie.close
     (tie.spec
-    (λ c. search sheets)
-    (λ c κs. search sheets)
-    (λ c κs. search sheets)
-    (λ c. search sheets)
-    (λ c. search sheets))
+    (λ c κs. search sheets) (λ c κs. search sheets) (λ c. search sheets) (λ c. search sheets))

@@ -5,7 +5,7 @@ use Rattle.records.proofs.Rules.{headers}
 use Rattle.records.proofs.vertices.Statement.{statement}
 use Rattle.records.proofs.vertices.Tie as tie
 
-pub vertices-spec : {M : Type 1} → statement M
-vertices-spec =
+pub vertices_spec : {M : Type 1} → statement M
+vertices_spec =
     tie.close (tie.spec (λ c κs. search headers) (λ c κs. search headers) (λ c κs. search headers) (λ c. search headers)
     (λ c. search (closed, vertices-record)))

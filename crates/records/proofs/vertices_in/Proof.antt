@@ -4,13 +4,9 @@ use Rattle.records.proofs.Rules.{sheets}
 use Rattle.records.proofs.vertices_in.Statement.{statement}
 use Rattle.records.proofs.vertices_in.Tie as tie
 
-pub vertices-in-spec : {M : Type 1} → statement M
+pub vertices_in_spec : {M : Type 1} → statement M
 unfolding ascii
-vertices-in-spec =
+vertices_in_spec =
     tie.close
     (tie.spec
-    (λ c. search sheets)
-    (λ c κs. search sheets)
-    (λ c κs. search sheets)
-    (λ c. search sheets)
-    (λ c. search sheets))
+    (λ c κs. search sheets) (λ c κs. search sheets) (λ c. search sheets) (λ c. search sheets))

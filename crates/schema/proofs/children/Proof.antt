@@ -13,4 +13,5 @@ unfolding ascii
 returns-2 c = search lines
 
 pub children_spec : {M : Type 1} → statement M
-children_spec = tie.close (tie.spec (λ c. search lines) (λ c κs. search lines) (λ c. search lines) (λ c. search lines) returns (λ c κs. search lines) returns-2)
+children_spec = tie.close (tie.spec
+    (λ c κs. search lines) (λ c. search lines) (λ c. search lines) returns (λ c κs. search lines) returns-2)

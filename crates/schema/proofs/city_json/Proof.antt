@@ -14,5 +14,5 @@ pub city_json_spec : {M : Type 1} → statement M
 city_json_spec =
     tie.close
     (tie.spec
-    (λ c κs. search lines) (λ c. search lines) (λ c. search lines) (λ c κs. search lines) (λ c. search lines) (λ c. search lines)
-    (λ c κs. search lines) (λ c κs. search lines) (λ c κs. search lines) returns)
+    (λ c κs. search lines) (λ c κs. search lines) (λ c κs. search lines) (λ c κs. search lines) (λ c κs. search lines)
+    returns)

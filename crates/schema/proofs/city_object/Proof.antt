@@ -13,4 +13,5 @@ returns : tie.Need-returns
 returns c = gives c.city_object_of.ensures
 
 pub city_object_spec : {M : Type 1} → statement M
-city_object_spec = tie.close (tie.spec (λ c. search strings) (λ c κs. search strings) (λ c κs. search strings) city-object-of-requires returns)
+city_object_spec = tie.close (tie.spec
+    (λ c κs. search strings) (λ c κs. search strings) city-object-of-requires returns)

@@ -13,5 +13,5 @@ pub city_object_of_spec : {M : Type 1} → statement M
 city_object_of_spec =
     tie.close
     (tie.spec
-    (λ c κs. search lines) (λ c κs. search lines) (λ c. search lines) (λ c κs. search lines) (λ c κs. search lines) (λ c κs. search lines)
+    (λ c κs. search lines) (λ c κs. search lines) (λ c κs. search lines) (λ c κs. search lines) (λ c κs. search lines)
     (λ c κs. search lines) returns)

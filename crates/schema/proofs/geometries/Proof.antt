@@ -16,4 +16,4 @@ pub geometries_spec : {M : Type 1} → statement M
 geometries_spec =
     tie.close
     (tie.spec
-    (λ c. search lines) (λ c κs. search lines) (λ c. search lines) (λ c. search lines) returns (λ c κs. search lines) returns-2)
+    (λ c κs. search lines) (λ c. search lines) (λ c. search lines) returns (λ c κs. search lines) returns-2)

@@ -13,4 +13,5 @@ unfolding ascii
 returns-2 c = search lines
 
 pub parents_spec : {M : Type 1} → statement M
-parents_spec = tie.close (tie.spec (λ c. search lines) (λ c κs. search lines) (λ c. search lines) (λ c. search lines) returns (λ c κs. search lines) returns-2)
+parents_spec = tie.close (tie.spec
+    (λ c κs. search lines) (λ c. search lines) (λ c. search lines) returns (λ c κs. search lines) returns-2)

@@ -14,4 +14,5 @@ unfolding ascii
 returns c = (gives c.city_json-least.ensures, search filling)
 
 pub root_spec : {M : Type 1} → statement M
-root_spec = tie.close (tie.spec (λ c. search filling) (λ c κs. search filling) (λ c κs. search filling) city-json-requires returns)
+root_spec = tie.close (tie.spec
+    (λ c κs. search filling) (λ c κs. search filling) city-json-requires returns)

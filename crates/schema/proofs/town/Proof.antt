@@ -14,4 +14,5 @@ unfolding ascii
 returns c = search (lines, town-is)
 
 pub town_spec : {M : Type 1} → statement M
-town_spec = tie.close (tie.spec (λ c. search lines) (λ c κs. search lines) (λ c κs. search lines) (λ c κs. search lines) vertices-requires returns)
+town_spec = tie.close (tie.spec
+    (λ c κs. search lines) (λ c κs. search lines) (λ c κs. search lines) vertices-requires returns)

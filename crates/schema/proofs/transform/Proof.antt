@@ -16,5 +16,5 @@ pub transform_spec : {M : Type 1} → statement M
 transform_spec =
     tie.close
     (tie.spec
-    (λ c. search lines) (λ c κs. search lines) (λ c κs. search lines) (λ c. search lines) (λ c. search lines) returns (λ c κs. search lines)
+    (λ c κs. search lines) (λ c κs. search lines) (λ c. search lines) (λ c. search lines) returns (λ c κs. search lines)
     returns-2)

@@ -10,4 +10,5 @@ unfolding ascii transform_parts together
 returns c = transform-is (search lines)
 
 pub transform_at_spec : {M : Type 1} → statement M
-transform_at_spec = tie.close (tie.spec (λ c κs. search lines) (λ c. search lines) (λ c κs. search lines) (λ c. search lines) (λ c κs. search lines) returns)
+transform_at_spec = tie.close (tie.spec
+    (λ c κs. search lines) (λ c κs. search lines) (λ c κs. search lines) returns)
