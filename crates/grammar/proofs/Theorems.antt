@@ -1,6 +1,6 @@
--- The machine of `json` and RFC 8259's grammar agree: what is read and as which tree, where the machine stops, and whether it says there
+-- The machine of `json_text` and RFC 8259's grammar agree: what is read and as which tree, where the machine stops, and whether it says there
 -- that a level too many is opened (docs/RULES.md, rules 3 and 4). The grammar alone decides each.
-use Rattle.std.specs.Prelude.{ℕ, ◌+◌, ◌≤◌, ◌<◌, ◌≡◌, refl, List, [], ◌⊎◌, ◌↔◌, length, take}
+use Rattle.std.specs.Prelude.{ℕ, ◌+◌, ◌≤◌, ◌<◌, ◌≡◌, refl, List, [], ◌↔◌, length, take}
 use Rattle.std.proofs.Common.{arith, sym, ◌∙◌, inl, inr}
 use Rattle.utf8.specs.Laws.{clash}
 use Rattle.json_text.specs.Tree.{Json}

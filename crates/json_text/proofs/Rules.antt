@@ -2,7 +2,7 @@
 use Rattle.std.proofs.Common.{◌≡◌, ℕ, ◌+◌, ◌<◌, ◌≤◌, Bool, true, false, not, List, length, get_or, sym, ◌∙◌, arith, rules}
 use borrow.Author.Tests.{not-true, not-false}
 use Rattle.json_text.specs.Machine.{Mode, is_blank}
-use Rattle.json_text.specs.Says.{Stays, Skips, blanks, to}
+use Rattle.json_text.specs.Says.{Stays, Skips, blanks}
 use Rattle.json_text.proofs.Moves.{stays-none, stays-more, blank-stays}
 use Rattle.json_text.proofs.Parts.{ends-bad, stops, passes, looks, end-high, hexes-start, hex-short, hex-wrong, hex-more, hex-done, escape-out, escape-u, escape-one, escape-no, string-start, string-out, string-shut, string-bad, string-plain, string-letter, string-rest, string-break, string-escaped, escape-less, passes-start, passes-part, passes-all}
 

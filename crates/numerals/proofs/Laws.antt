@@ -7,7 +7,7 @@ use Rattle.std.proofs.Math.Bool.{true, false}
 use mathlib.Core.List.{List, [], ◌∷◌, ◌++◌, append-nil}
 use Rattle.utf8.specs.Ascii.{is_digit}
 use Rattle.utf8.specs.Laws.{clash}
-use Rattle.numerals.specs.Numerals.{Decimal, Trimmed, more, trimmed, none_yet, natural, digits, is_point, is_letter, is_integer, integer, before, after, mantissa, places, exponent, negative, signed, scaled, decimal, times_ten, whole_of}
+use Rattle.numerals.specs.Numerals.{Trimmed, more, trimmed, none_yet, natural, digits, is_point, is_letter, is_integer, integer, before, after, mantissa, places, exponent, negative, signed, scaled, decimal, times_ten, whole_of}
 use Rattle.numerals.specs.Laws.{Canonical, Below10}
 
 -- ---- the digits write m times ten to the zeros

@@ -1,13 +1,13 @@
 -- A numeral by its parts, as RFC 8259, section 6, writes it: number = [ minus ] int [ frac ] [ exp ].
 -- What `as_written` makes of its bytes is what the parts say. Zeros in front of int, which the RFC does not allow, change nothing in that.
-use Rattle.std.specs.Prelude.{ℕ, ◌+◌, ◌-◌, ◌<◌, ◌≡◌, Bool, cond, List, [], ◌∷◌, ◌++◌, map, eqb, ℤ, pos, negsuc, ◌-ℤ◌}
+use Rattle.std.specs.Prelude.{ℕ, ◌+◌, ◌-◌, ◌<◌, ◌≡◌, Bool, cond, List, [], ◌∷◌, ◌++◌, map, eqb, negsuc}
 use Rattle.std.proofs.Math.Path.{refl, ap}
 use Rattle.std.proofs.Common.{sym, ◌∙◌, append_assoc, append-nil, arith, le-leb, ne_eqb}
 use Rattle.std.proofs.Math.Bool.{true, false}
 use Rattle.std.proofs.Math.Nat.{add-sub_cancel_left}
 use Rattle.std.proofs.Math.ListN.{length}
 use Rattle.utf8.specs.Ascii.{ascii, is_digit}
-use Rattle.numerals.specs.Numerals.{Decimal, before, after, is_point, is_letter, digits, natural, negative, signed, integer, mantissa, places, exponent}
+use Rattle.numerals.specs.Numerals.{before, after, is_point, is_letter, digits, natural, negative, signed, integer, mantissa, places, exponent}
 use Rattle.numerals.specs.Laws.{Below10}
 use Rattle.numerals.proofs.Laws.{Lacks, before-past, after-past}
 use Rattle.numerals.proofs.Laws.Lacks.{lacks-nil, lacks-more}

@@ -27,7 +27,7 @@ use Rattle.verdict.specs.Verdict.{accepted, faults, verdict}
 use Rattle.verdict.proofs.Exact.{accepted-clean}
 use Rattle.model.specs.Code.{All}
 use Rattle.model.specs.Lists.{one_of, all_map, all_both, all-parts, all_of_map}
-use Rattle.model.specs.Model.{Surface, added, Semantics, Object, Model}
+use Rattle.model.specs.Model.{added}
 use Rattle.model.specs.Model as model
 use Rattle.model.specs.Read.{or_null, get, surface_named, surface_of, semantics_of, geometry_of, object_of, model_of}
 use Rattle.json_text.specs.Machine.{tree_of}

@@ -5,10 +5,10 @@ use Rattle.utf8.specs.Utf8.{is_character, encode, Whole}
 use Rattle.utf8.specs.Utf8.Whole.{nil, next}
 use Rattle.utf8.specs.Laws.{clash, both_left, both_right, nil-left, nil-right}
 use Rattle.utf8.specs.Splits.{whole_append, whole-cons, whole_split, character-above}
-use Rattle.strings.specs.Strings.{Piece, byte, unit, plain, hex_value, escaped, pieces, ended, is_high, is_low, paired, decoded, decode, alone, unpaired, unpaired_from}
+use Rattle.strings.specs.Strings.{Piece, byte, unit, plain, escaped, pieces, ended, is_high, is_low, paired, decoded, decode, alone, unpaired, unpaired_from}
 use Rattle.strings.specs.Strings as strings
 use Rattle.strings.specs.Laws.{decoded-anywhere}
-use Rattle.strings.specs.Characters.{Digit, Escaped, end, unescaped, short, long}
+use Rattle.strings.specs.Characters.{Escaped, end, unescaped, short, long}
 
 -- ---- pieces
 

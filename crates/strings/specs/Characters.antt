@@ -1,13 +1,6 @@
--- A string with no unpaired surrogate, whose bytes are whole characters, stands for whole characters.
-use Rattle.std.specs.Prelude.{ℕ, ◌+◌, ◌≤◌, ◌<◌, ◌≡◌, refl, Bool, true, false, cond, ◌&&◌, List, [], ◌∷◌, ◌++◌, eqb, leb}
-use Rattle.std.proofs.Common.{arith, append-nil, append_assoc, leb-true, le-leb, ne_eqb}
-use Rattle.utf8.specs.Utf8.{is_character, encode, Whole}
-use Rattle.utf8.specs.Utf8.Whole.{nil, next}
-use Rattle.utf8.specs.Laws.{clash, both_left, both_right, nil-left, nil-right}
-use Rattle.utf8.specs.Splits.{whole_append, whole-cons, whole_split, character-above}
-use Rattle.strings.specs.Strings.{Piece, byte, unit, plain, hex_value, escaped, pieces, ended, is_high, is_low, paired, decoded, decode, alone, unpaired, unpaired_from}
-use Rattle.strings.specs.Strings as strings
-use Rattle.strings.specs.Laws.{decoded-anywhere}
+-- A string that stands for characters (proofs/Characters.antt).
+use Rattle.std.specs.Prelude.{ℕ, ◌<◌, ◌≡◌, List, [], ◌∷◌}
+use Rattle.strings.specs.Strings.{hex_value}
 
 -- a byte that can be a hexadecimal digit
 abbrev pub Digit : ℕ → Type 0

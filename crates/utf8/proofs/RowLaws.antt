@@ -5,7 +5,7 @@ use Rattle.std.specs.Prelude.{◌≡◌, Bool, true, false, not, ◌&&◌, ◌�
 use Rattle.std.proofs.Math.Path.{refl, ap}
 use mathlib.Core.List.{List, [], ◌∷◌, ◌++◌}
 use Rattle.utf8.specs.Utf8.{is_character, encode}
-use Rattle.utf8.specs.Rows.{Range, utf8_tail, rows, is_in, matches, row, Matches, Begins}
+use Rattle.utf8.specs.Rows.{Range, utf8_tail, rows, is_in, matches, row, Matches}
 use Rattle.utf8.specs.Rows.Range.{◌to◌}
 use Rattle.utf8.specs.Laws.{below_or_not, both_left, both_right, never, Form, top, encode_one, encode-two, encode-three, encode-four}
 use Rattle.utf8.specs.Laws.Form.{one, two, three, four}

@@ -1,29 +1,17 @@
 -- The verdict is the lowest broken rule (docs/RULES.md) at its earliest place, with the end of that place, and a text is accepted exactly if
 -- it breaks no rule (promise 2 of README.md, for judge).
-use Rattle.std.specs.Prelude.{ℕ, ◌+◌, ◌*◌, ◌/◌, ◌%◌, ◌≤◌, ◌<◌, min, ◌≡◌, refl, cond, ◌⊎◌, ◌↔◌, length, take, ltb}
-use native.Mathlib.Omega.{arith}
-use Rattle.std.proofs.Math.Decide.{dec_lt}
-use Rattle.std.proofs.Common.{sym, ap, ◌∙◌, lt-ltb, le-ltb}
+use Rattle.std.specs.Prelude.{ℕ, ◌+◌, ◌≤◌, ◌<◌, ◌≡◌, ◌⊎◌, length, take}
 use mathlib.Core.List.Memᴰ
-use mathlib.Core.List.{List, [], ◌∷◌, Memᴰ}
-use Rattle.std.proofs.Math.Logic.{inl, inr}
+use mathlib.Core.List.{List, [], Memᴰ}
 use Rattle.utf8.specs.Utf8.{whole_length}
 use Rattle.json_text.specs.Tree.{Json}
-use Rattle.json_text.specs.Machine.{Outcome, reads, bad, too_deep, read}
+use Rattle.json_text.specs.Machine.{reads, read}
 use Rattle.json_text.specs.Grammar.{Text, Begins}
-use Rattle.grammar.specs.Theorems.{Stopped}
-use Rattle.grammar.proofs.Theorems.{read-text, one-tree, ordered, stops, stops-exactly, bad-never, deep-deeper}
-use Rattle.grammar.specs.Reaches.{shorter, begun}
-use Rattle.nodes.specs.Faults.{fault, rule_of, place_in, least, no_fault}
-use Rattle.nodes.specs.Laws.{least-le}
+use Rattle.nodes.specs.Faults.{fault}
 use Rattle.fields.specs.Fields.{objects_of}
-use Rattle.model.specs.Code.{All}
-use Rattle.model.specs.Lists.{one_of}
 use Rattle.everywhere.specs.Parts.{parts}
-use Rattle.verdict.specs.Ends.{ends_at}
-use Rattle.verdict.specs.EndLaws.{Alone, alone-end, alone-within}
-use Rattle.verdict.specs.Verdict.{Verdict, accepted, refused, faults, end_of_fault, given, judged, parsed, verdict}
-use Rattle.verdict.specs.Places.{Small, Placed, FaultPlace, within, single, faults-small, faults-stand}
+use Rattle.verdict.specs.EndLaws.{Alone}
+use Rattle.verdict.specs.Verdict.{faults}
 
 -- rules 3 and 4: "let n be the longest prefix that begins some JSON text and never has more than 32 levels open"
 pub record Longest (x : List ℕ) (n : ℕ) : Type 0 where

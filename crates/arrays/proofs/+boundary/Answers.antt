@@ -40,7 +40,7 @@ pub loop-k-preserved : goal.loop-k-preserved
 loop-k-preserved t c =
     nesting-turn _ c.loop-k.invariant c.loop-k-test.true
     (elim c.if-depth-eq1.branch [
-      then-depth-eq1 w ↦ rw (w.o-is, w.sheet-is) (nest-leaf _ (omega (arith, w.if-depth-eq1.true)) w.index-o.ensures refl)
+      | then-depth-eq1 w ↦ rw (w.o-is, w.sheet-is) (nest-leaf _ (omega (arith, w.if-depth-eq1.true)) w.index-o.ensures refl)
       | else-depth-eq1 w ↦ rw (w.o-is, w.sheet-is) w.boundary-o.ensures
     ])
     c.next-k.ensures
