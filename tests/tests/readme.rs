@@ -93,7 +93,7 @@ fn the_layers_are_the_crates() {
     assert_eq!(sorted, crates);
     let list = source("crates.txt");
     for line in list.lines().filter(|line| !line.starts_with('#')) {
-        let (name, below) = line.split_once(':').expect("a crate");
+        let (name, below) = line.split_once([' ', ':']).expect("a crate");
         let Some(at) = layers.iter().position(|layer| *layer == name) else {
             continue;
         };
