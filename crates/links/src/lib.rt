@@ -534,6 +534,7 @@ fn links_many(
 }
 
 // Rules 15 to 17 of all objects, with sets of a size that suits their number.
+#[inline(never)]
 fn links_long(
     text: &[u8],
     table: &[u32],

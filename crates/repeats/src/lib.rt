@@ -359,6 +359,7 @@ fn pass(text: &[u8], table: &[u32], links: &mut [u32], n: usize, best: u32) -> u
 }
 
 // The same where a chain is too long: by tries, and by comparing all names if there is no room for these.
+#[inline(never)]
 fn again(text: &[u8], table: &[u32], n: usize, best: u32) -> u32
     requires { Root text.now table.now n }
     ensures { Gives (λ v. least best (map (fault 6) (rule6 v))) text.now table.now 0 result }
