@@ -1,3 +1,4 @@
 -- That the machine and RFC 8259's grammar agree.
 pub mod Theorems
 pub mod Ordered
+pub mod Exactly

@@ -12,7 +12,8 @@ use Rattle.json_text.specs.Tree.{Json}
 use Rattle.json_text.specs.Machine.{Outcome, reads, bad, too_deep, read}
 use Rattle.json_text.specs.Grammar.{Text, Begins}
 use Rattle.grammar.specs.Theorems.{Stopped}
-use Rattle.grammar.proofs.Theorems.{read-text, one-tree, ordered, stops, stops-exactly, bad-never, deep-deeper}
+use Rattle.grammar.proofs.Theorems.{read-text, one-tree, ordered, stops, bad-never, deep-deeper}
+use Rattle.grammar.proofs.Exactly.{stops-exactly}
 use Rattle.grammar.specs.Reaches.{shorter, begun}
 use Rattle.nodes.specs.Faults.{fault, rule_of, place_in, least, no_fault}
 use Rattle.nodes.specs.Laws.{least-le}
