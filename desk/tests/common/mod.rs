@@ -39,6 +39,13 @@ impl Desk {
     }
 }
 
+/// Its folder goes with it: a crates.txt in it would be taken for one of the repository's by a later `rt ci`.
+impl Drop for Desk {
+    fn drop(&mut self) {
+        let _ = fs::remove_dir_all(&self.folder);
+    }
+}
+
 /// Checks the status and what is printed on standard output and standard error.
 #[track_caller]
 pub fn check(found: &Output, status: i32, printed: &str, said: &str) {
