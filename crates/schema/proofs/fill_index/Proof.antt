@@ -14,14 +14,11 @@ decreases-loop text table offsets₀ count₀ i n k₀ offsets count k = n - k
 loop-holds : tie.Need-loop-k-init invariant-loop decreases-loop
 loop-holds c = search (filling, looped)
 
-returns-3 : tie.Need-returns-then-count-eq1024 invariant-loop decreases-loop
-returns-3 c = search (filling, looped)
-
 mul-offsets : tie.Need-offset_bounds-offsets-count invariant-loop decreases-loop
 mul-offsets c = omega (arith, c.loop-k.invariant.few)
 
 array-write-offsets : tie.Need-bounds-offsets-count invariant-loop decreases-loop
-array-write-offsets c = omega (arith, c.loop-k.invariant.few, c.loop-k.invariant.room, c.if-count-eq1024.false)
+array-write-offsets c = omega (arith, c.loop-k.invariant.few, c.loop-k.invariant.room)
 
 add-count : tie.Need-overflow_add-count invariant-loop decreases-loop
 add-count c = omega (arith, c.loop-k.invariant.few)
@@ -40,5 +37,5 @@ fill_index_spec =
     tie.close
     (tie.spec
     invariant-loop decreases-loop (λ c. search filling) (λ c. search filling) (λ c. search filling) (λ c κs. search filling) (λ c. search filling)
-    (λ c κs. search filling) (λ c. search filling) loop-holds returns-3 mul-offsets array-write-offsets add-count add-next next-requires-2
+    (λ c κs. search filling) (λ c. search filling) loop-holds (λ c. search (filling, looped)) mul-offsets array-write-offsets add-count add-next next-requires-2
     (λ c. search looped) (λ c. search looped) returns-4)

@@ -1,9 +1,11 @@
 -- `utf8::character` meets its contract: each arm is a row.
 use native.Mathlib.Omega.{arith}
 use mathlib.Core.Path.{refl, ◌∙◌}
-use mathlib.Core.Bool.{true}
+use mathlib.Core.Bool.{Bool, true}
 use mathlib.Core.Logic.{⊎_elim}
-use Rattle.utf8.specs.Rows.{rows, matches, row}
+use Rattle.std.specs.Prelude.{ℕ, ◌+◌, ◌≤◌, ◌<◌, ◌≡◌, cond, List, [], ◌∷◌, length, drop, get_or}
+use Rattle.utf8.specs.Utf8.{size}
+use Rattle.utf8.specs.Rows.{utf8_tail, rows, matches, row}
 use Rattle.utf8.proofs.Arms.{second-and, second-not, arm}
 use Rattle.utf8.proofs.Rules.{chars}
 use Rattle.utf8.proofs.character.Statement.{statement}
@@ -50,16 +52,15 @@ returns-4 c =
     refl (omega arith) c.requires (omega arith) (omega arith)
 
 -- %x00-7F
-returns-5 : tie.Need-returns-in-0-to-127
+row-0 : (text : List ℕ) (at : ℕ) → at < length text → get_or text at 0 ≤ 0x7F → 1 ≡ size (drop at text)
 unfolding rows row matches
-returns-5 c = arm c.args.text.now c.args.at 0 true refl refl (omega arith) c.requires (omega arith) (omega arith)
+row-0 text at h hi = arm text at 0 true refl refl (omega arith) h (omega arith) hi
 
 -- %xC2-DF UTF8-tail
-returns-6 : tie.Need-returns-in-194-to-223
+row-1 : (text : List ℕ) (at : ℕ) → at < length text → 0xC2 ≤ get_or text at 0 → get_or text at 0 ≤ 0xDF
+    → {r : ℕ} {b : Bool} → r ≡ cond b 2 0 → b ≡ matches (utf8_tail ∷ []) (drop (at + 1) text) → r ≡ size (drop at text)
 unfolding rows row
-returns-6 c =
-    c.counted-in-194-to-223.ensures
-    ∙ arm c.args.text.now c.args.at 1 _ c.tail-in-194-to-223.ensures refl (omega arith) c.requires (omega arith) (omega arith)
+row-1 text at h lo hi q g = q ∙ arm text at 1 _ g refl (omega arith) h lo hi
 
 -- %xE1-EC 2( UTF8-tail )
 returns-7 : tie.Need-returns-in-225-to-236
@@ -95,5 +96,5 @@ character_spec =
     (λ c. search chars) (λ c κs. search chars) (λ c κs. search chars)
     (λ c. search chars) (λ c κs. search chars) (λ c κs. search chars)
     (λ c. search chars) (λ c κs. search chars) (λ c κs. search chars)
-    returns returns-2 returns-3 returns-4 returns-5 returns-6 returns-7 returns-8 returns-9
+    returns returns-2 returns-3 returns-4 (λ c. row-0 c.args.text.now c.args.at c.requires (omega arith)) (λ c. search (row-1 c.args.text.now c.args.at c.requires (omega arith) (omega arith))) returns-7 returns-8 returns-9
     (λ c. search chars) (λ c. search chars))
