@@ -1,4 +1,5 @@
--- The machine that reads JSON texts and RFC 8259's grammar agree: `Theorems` says how, with the definitions of `Order`; the other files prove it.
+-- The machine that reads JSON texts and RFC 8259's grammar agree: `Theorems` and `Exactly` in proofs/ say
+-- how, with the definitions of `Order`; the other files prove it.
 pub mod Order
 pub mod Induction
 pub mod Joins

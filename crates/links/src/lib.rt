@@ -533,7 +533,8 @@ fn links_many(
     )
 }
 
-// Rules 15 to 17 of all objects, with sets of a size that suits their number.
+// Rules 15 to 17 of all objects, with sets of a size that suits their number. It keeps a frame of its own, so that its sets take no stack
+// of what is called before.
 #[inline(never)]
 fn links_long(
     text: &[u8],
@@ -552,7 +553,7 @@ fn links_long(
     links_many(text, table, offsets, children, parents, best)
 }
 
-// The same of a short text. It has no more than 200 objects, but the long way is a function with a frame of its own because it is called from here too.
+// The same of a short text. It has no more than 200 objects, so that the long way is not taken.
 fn links_short(
     text: &[u8],
     table: &[u32],

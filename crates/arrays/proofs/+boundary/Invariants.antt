@@ -1,12 +1,4 @@
-use Rattle.std.proofs.Common.{◌-◌, ◌≡◌, ℕ, ◌+◌, ◌*◌, ◌<◌, ◌≤◌, length}
-use Rattle.utf8.specs.Bytes.{le}
-use Rattle.model.specs.Code.{signed, concat_map}
-use Rattle.model.specs.Model.{lay_three, lay_decimal, lay_nest, lay_value, lay_values}
-use Rattle.model.specs.Read.{decimal_of, integer_of, index_of, value_of, three_of, nest_of}
-use Rattle.nodes.specs.Access.{elements}
-use Rattle.nodes.specs.Says.{Node, Gives}
-use Rattle.arrays.specs.Fits.{Pair, Coordinate, Index, Value, Elements, Triple, Leaves}
-use Rattle.arrays.specs.Says.{Holds, Ends, Wrote}
+use Rattle.std.proofs.Common.{◌-◌}
 use Rattle.arrays.proofs.Nodes.{Nesting}
 use Rattle.arrays.proofs.+boundary.Given as goal
 

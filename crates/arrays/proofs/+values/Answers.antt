@@ -1,12 +1,3 @@
-use Rattle.std.proofs.Common.{arith, refl, ◌≡◌, ℕ, ◌+◌, ◌-◌, ◌*◌, ◌<◌, ◌≤◌, length, ◌/◌, ◌%◌, Bool, true, false, nat_eq, nat_lt, List, [], ◌∷◌, ◌++◌, slice_index_or, slice_set, bit_and, bit_or, Fits, w8, w32, w64, Bor, MutBor}
-use Rattle.utf8.specs.Bytes.{le}
-use Rattle.model.specs.Code.{signed, concat_map}
-use Rattle.model.specs.Model.{lay_three, lay_decimal, lay_nest, lay_value, lay_values}
-use Rattle.model.specs.Read.{decimal_of, integer_of, index_of, value_of, three_of, nest_of}
-use Rattle.nodes.specs.Access.{elements}
-use Rattle.nodes.specs.Says.{Node, Gives}
-use Rattle.arrays.specs.Fits.{Pair, Coordinate, Index, Value, Elements, Triple, Leaves}
-use Rattle.arrays.specs.Says.{Holds, Ends, Wrote}
 use Rattle.arrays.proofs.Nodes.{values-leaf, values-done}
 use Rattle.arrays.proofs.Rules.{arrays}
 use Rattle.arrays.proofs.+values.Goals as goal

@@ -1,9 +1,4 @@
-use Rattle.std.proofs.Common.{arith, ◌+◌, ◌≤◌, length, ◌≡◌, ℕ, ◌-◌, ◌*◌, ◌<◌, ◌/◌, ◌%◌, Bool, true, false, nat_eq, nat_lt, List, [], ◌∷◌, ◌++◌, slice_index_or, slice_set, bit_and, bit_or, w8, w32, w64, Bor, MutBor}
-use Rattle.json_text.specs.Machine.{is_blank}
-use Rattle.json_text.specs.Machine.Mode.{want, first, name0}
-use Rattle.json_text.specs.Says.{blanks, Skips, Plain}
-use Rattle.json_text.specs.Parse.{Tells}
-use Rattle.parser.specs.Says.{Fits, Wrote, Quote, Atom, Ready, Opened, Told, Colons, Names, Begins, Follows, Member}
+use Rattle.std.proofs.Common.{arith}
 use Rattle.parser.proofs.Growth.{begins-there, follows-there, comma-there}
 use Rattle.parser.proofs.Rules.{walks}
 use Rattle.parser.proofs.+array_element_item_member_object_value.Goals as goal

@@ -1,9 +1,4 @@
-use Rattle.std.proofs.Common.{◌+◌, ◌≤◌, length, ◌≡◌, ℕ, ◌-◌, ◌*◌, ◌<◌}
-use Rattle.json_text.specs.Machine.{is_blank}
-use Rattle.json_text.specs.Machine.Mode.{want, first, name0}
-use Rattle.json_text.specs.Says.{blanks, Skips, Plain}
-use Rattle.json_text.specs.Parse.{Tells}
-use Rattle.parser.specs.Says.{Fits, Wrote, Quote, Atom, Ready, Opened, Told, Colons, Names, Begins, Follows, Member}
+use Rattle.std.proofs.Common.{◌+◌, length, ◌-◌, ◌*◌}
 use Rattle.parser.proofs.Growth.{Elements, Fielded}
 use Rattle.parser.proofs.+array_element_item_member_object_value.Given as goal
 
