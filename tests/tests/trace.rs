@@ -5,9 +5,27 @@
 use kebrawish_tests::pages::{crates, defines, edits, folder, is_name, page, quoted, root};
 use std::fs;
 
+/// The functions of a source: the methods of a type, or those that are none.
+fn functions<'a>(source: &'a str, owner: Option<&str>) -> Vec<&'a str> {
+    let mut found = Vec::new();
+    // The type whose `impl` the line stands in.
+    let mut within = None;
+    for line in source.lines() {
+        if let Some(head) = line.strip_prefix("impl") {
+            let last = head.trim_end_matches(" {").rsplit(' ').next().expect("a type");
+            within = last.split('<').next();
+        } else if line == "}" {
+            within = None;
+        } else if let Some((_, start)) = line.split_once("fn ").filter(|_| within == owner) {
+            found.extend(start.split(['(', '<']).next());
+        }
+    }
+    found
+}
+
 /// Whether `crate/File: a, b` names definitions or theorems of that file, which stands in `specs/`
-/// or `proofs/` or in both, `crate::function` one function
-/// of the crate's sources, and `file::test` one test. None for what is no such name.
+/// or `proofs/` or in both, `crate::function` one function of the crate's sources, `crate::Type::method`
+/// one method of a type there, and `file::test` one test. None for what is no such name.
 fn exists(quoted: &str) -> Option<bool> {
     if let Some((file, names)) = quoted.split_once(": ") {
         let (name, file) = file.split_once('/')?;
@@ -17,6 +35,7 @@ fn exists(quoted: &str) -> Option<bool> {
         return Some(names.split(", ").all(|name| defines(&text, name)));
     }
     let (place, name) = quoted.split_once("::")?;
+    let (owner, name) = name.split_once("::").map_or((None, name), |(owner, name)| (Some(owner), name));
     if !is_name(place) || !is_name(name) {
         return None;
     }
@@ -25,7 +44,7 @@ fn exists(quoted: &str) -> Option<bool> {
         Ok(text) => text,
         Err(_) => folder(&root().join(format!("crates/{place}/src"))),
     };
-    Some(text.matches(&format!("fn {name}(")).count() == 1)
+    Some(functions(&text, owner).iter().filter(|found| **found == name).count() == 1)
 }
 
 #[test]

@@ -1,46 +1,32 @@
 -- How many elements of an array a loop has passed.
-use Prim.Native.Nat.{ℕ, ◌+◌, ◌-◌, ◌*◌, ◌^◌, ◌≤◌, ◌<◌}
-use native.Mathlib.Omega.{arith}
-use mathlib.Core.Path.{◌≡◌, ap}
-use mathlib.Core.List.{List}
-use lib.ListN.{length, get_or}
-use mir.Syntax.{w64}
-use mir.Val.{Fits}
-use Rattle.json_text.specs.Tree.{Json}
-use Rattle.json_text.specs.Table.{Sub}
-use Rattle.json_text.specs.Laws.{Left, past, over, ended}
-use Rattle.nodes.specs.Access.{listed, elements}
+use Rattle.std.specs.Prelude.{ℕ, ◌+◌, ◌*◌, ◌^◌, ◌≤◌, ◌<◌, ◌≡◌, List, length}
+use Rattle.std.proofs.Common.{arith, Fits}
+use Rattle.std.specs.Int.{w64}
+use Rattle.nodes.specs.Access.{elements}
 use Rattle.nodes.specs.Says.{Node, Gives}
-use Rattle.arrays.specs.Says.{Ends}
+use Rattle.nodes.specs.Siblings.{Elements, StepsPast}
+use Rattle.nodes.specs.declared.Siblings.{Siblings}
+use Rattle.nodes.specs.Reads.{node-room}
+use Rattle.nodes.specs.Walk.{Running, run-begin, run-node, run_turn, run-done}
 
--- c elements of the array at i stand before the node k
-pub record Counting (x t : List ℕ) (i n k c : ℕ) : Type 0 where
-  pub node : Node x t i
-  pub low : c ≤ k
-  pub left : (v : Json) → Sub x t i v → Left x t k n (λ us. c + length (listed us) ≡ length (elements v))
+-- c elements of the array at i stand before what s has come to
+pub record Counting (x t : List ℕ) (i : ℕ) (s : Siblings) (c : ℕ) : Type 0 where
+  pub low : c ≤ s.at
+  pub run : Running x t i s (λ all us. c + length us ≡ length all)
 
-module _ {x t : List ℕ} {i : ℕ} where
-  pub counting-start : {n : ℕ} → Node x t i → Ends x t i n → Counting x t i n (i + 3) 0
-  counting-start d e = record {
-    node = d;
-    low = omega arith;
-    left = λ v s. let l = e.left v s in record { items = l.items; stand = l.stand; ends = l.ends; holds = omega (arith, ap length l.holds) };
-  }
+module _ {x t : List ℕ} {i : ℕ} {s : Siblings} where
+  pub counting-start : {r : Siblings} → Node x t i → Elements x t i r → s ≡ r → Counting x t i s 0
+  counting-start d e q = record { low = omega arith; run = run-begin (λ all us. 0 + length us ≡ length all) d e q (λ l. omega arith) }
 
-  module _ {n k c : ℕ} (p : Counting x t i n k c) where
-    pub counting-fits : k < n → length t * 4 < 2 ^ 63 → Fits w64 (c + 1)
-    counting-fits l h = let u = past (p.left p.node.value p.node.stands) l in record { fits = omega (arith, u.word.room, p.low) }
+  module _ {c : ℕ} (p : Counting x t i s c) where
+    pub counting-fits : {k : ℕ} {u : Siblings} → StepsPast s k u → length t * 4 < 2 ^ 63 → Fits w64 (c + 1)
+    counting-fits g h = record { fits = omega (arith, node-room (run-node p.run g), g.node, p.low) }
 
-    pub counting-turn : {m : ℕ} → k < n → m ≡ get_or t (k + 2) 0 → Counting x t i n m (c + 1)
-    unfolding listed
-    counting-turn l q =
-        let w = past (p.left p.node.value p.node.stands) l in
-        record {
-          node = p.node;
-          low = omega (arith, p.low, w.more);
-          left = λ v s. let u = past (p.left v s) l in let h = u.holds in rw q (over u (omega arith));
-        }
+    pub counting-turn : {k : ℕ} {u : Siblings} → StepsPast s k u → Counting x t i u (c + 1)
+    counting-turn g = record {
+      low = omega (arith, p.low, g.onward);
+      run = run_turn p.run g (λ all us. c + 1 + length us ≡ length all) (λ all v vs y h. omega (arith, h));
+    }
 
-    pub counting-done : n ≤ k → Gives (λ v. length (elements v)) x t i c
-    unfolding listed
-    counting-done h = record { is = λ v s. let e = ended (p.left v s) h in omega arith }
+    pub counting-done : s.end ≤ s.at → Gives (λ v. length (elements v)) x t i c
+    counting-done h = record { is = λ v z. let e = run-done p.run h z in omega (arith, e) }

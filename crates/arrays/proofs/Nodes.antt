@@ -2,6 +2,7 @@
 use Prim.Native.Nat.{ℕ, zero, suc, ◌+◌, ◌-◌, ◌*◌, ◌^◌, ◌≤◌, ◌<◌}
 use native.Mathlib.Omega.{arith}
 use mathlib.Core.Path.{◌≡◌, refl, sym, ap, ◌∙◌}
+use Rattle.std.proofs.Common.{Some}
 use mathlib.Core.Bool.{Bool, true, false}
 use mathlib.Core.List.{List, ◌++◌}
 use mathlib.Core.Logic.{inl}
@@ -20,11 +21,13 @@ use Rattle.json_text.specs.Tree.{Json}
 use Rattle.json_text.specs.Table.{Sub}
 use Rattle.nodes.specs.Access.{is_null_value, is_number_value, elements, numeral_of}
 use Rattle.nodes.specs.Says.{Gives}
+use Rattle.nodes.specs.Siblings.{StepsPast}
+use Rattle.nodes.specs.Siblings as siblings
+use Rattle.nodes.specs.declared.Siblings.{Siblings}
 use Rattle.nodes.specs.Laws.{NumeralAt, numeral-at}
 use Rattle.shapes.specs.Shapes.{or_fault, pair_or_fault}
 use Rattle.shapes.specs.Says.{paired_as, GivesPair}
-use Rattle.shapes.specs.declared.Paired.{Paired}
-use Rattle.shapes.specs.declared.Paired.TheVariants as paired
+use Rattle.std.specs.Prelude.{Result, Ok, Err}
 use Rattle.shapes.specs.Laws.{integer-number}
 use Rattle.utf8.specs.Bytes.{le}
 use Rattle.model.specs.Code.{signed, concat_map}
@@ -35,8 +38,8 @@ use Rattle.sheets.specs.Numbers.{integer-read}
 use Rattle.writer.specs.Writes.{Writes, Skips, twos}
 use Rattle.writer.specs.Laws.{then, as_bytes, numbered, wrote-signed}
 use Rattle.arrays.specs.Fits.{Pair, Coordinate, Index, Value, Elements, Triple, Leaves}
-use Rattle.arrays.specs.Says.{Holds, Ends, Wrote}
-use Rattle.arrays.specs.Laws.{Laying, laying-begin, laying-same, laying-item, laying-room, laying-less, laying-turn, laying-done, holds_as, wrote_as, wrote-told}
+use Rattle.arrays.specs.Says.{Holds, Wrote}
+use Rattle.arrays.specs.Laws.{Laying, laying-begin, laying-same, laying-item, laying-turn, laying-done, holds_as, wrote_as, wrote-told}
 use Rattle.arrays.proofs.Counting.{Counting, counting-start, counting-fits, counting-turn, counting-done}
 use Rattle.arrays.specs.Parts.{three-each, nest-parts, values-parts, pair_read, index_read, coordinate-read, value-null, value-index}
 
@@ -88,19 +91,19 @@ module _ {x t : List ℕ} {i : ℕ} where
   unfolding Pair
   pair-asked h = record { is = λ v s. sym (h.holds v s).0 }
 
-  module _ (h : Holds Pair x t i) (a : Paired) (g : GivesPair x t i a) where
+  module _ (h : Holds Pair x t i) (a : Result (ℤ × ℤ) ℕ) (g : GivesPair x t i a) where
     pair-at : (v : Json) → Sub x t i v → paired_as a ≡ inl (decimal_of v)
     unfolding pair_or_fault or_fault
     pair-at v s = g.is v s ∙ ap (or_fault v) (pair_read v (h.holds v s)).0
 
-    pub pair-out : {e : ℕ} {f : Json → List ℕ} {d₀ d : List ℕ} {to r : ℕ} → a ≡ paired.Fault e → Wrote f x t i d₀ d to r
+    pub pair-out : {e : ℕ} {f : Json → List ℕ} {d₀ d : List ℕ} {to r : ℕ} → a ≡ Err e → Wrote f x t i d₀ d to r
     unfolding paired_as
     pair-out k = absurd (go h.node.value h.node.stands)
       where
         go : (v : Json) → Sub x t i v → ⊥
         go v s = let z = rw k at (pair-at v s) in clash cc
 
-    pub pair-wrote : {n k : ℤ} {b c : ℕ} {d₀ d₁ d₂ : List ℕ} {to r₁ r : ℕ} → a ≡ paired.Pair n k → b ≡ twos (to_z w64 (of_z w64 n)) → c ≡ twos (to_z w64 (of_z w64 k)) → Writes (le 8 b) d₀ d₁ to r₁
+    pub pair-wrote : {n k : ℤ} {b c : ℕ} {d₀ d₁ d₂ : List ℕ} {to r₁ r : ℕ} → a ≡ Ok (n, k) → b ≡ twos (to_z w64 (of_z w64 n)) → c ≡ twos (to_z w64 (of_z w64 k)) → Writes (le 8 b) d₀ d₁ to r₁
         → Writes (le 2 c) d₁ d₂ r₁ r → Wrote (λ v. lay_decimal (decimal_of v)) x t i d₀ d₂ to r
     unfolding paired_as lay_decimal
     pair-wrote {n} {k} {b} {c} {d₀} {d₁} {d₂} {to} {r₁} {r} w y z u g = record { is = go }
@@ -129,16 +132,16 @@ module _ {x t : List ℕ} {i : ℕ} where
             let n : integer_of v ≡ z = c ∙ ap integer (sym (bytes (coordinate-number h) q o v s)) ∙ sym y in
             rw (← wrote-signed 4 (integer_of v) (omega arith) l, n, ← k) w
 
-    pub coordinate-quick : {n : ℕ} {d₀ d : List ℕ} {to r : ℕ} → Quick (slice p e x) n → (n ≡ 18446744073709551615 → ⊥) → Fits w64 n → Writes (le 4 n) d₀ d to r
+    pub coordinate-quick : {n : ℕ} {d₀ d : List ℕ} {to r : ℕ} → Quick (slice p e x) (Some n) → Writes (le 4 n) d₀ d to r
         → Wrote (λ v. signed 4 (integer_of v)) x t i d₀ d to r
     unfolding twos
-    coordinate-quick {n} k m f w = coordinate-wrote {z = pos n} (sym (k.value (omega (arith, f.fits)))) refl w
+    coordinate-quick {n} k w = coordinate-wrote {z = pos n} (sym (k.value n refl)) refl w
 
   -- an index, read in one go or by its digits
-  pub index-quick : Holds Index x t i → {p e n : ℕ} → p ≡ get_or t i 0 → e ≡ get_or t (i + 1) 0 → Quick (slice p e x) n → (n ≡ 18446744073709551615 → ⊥) → Fits w64 n → Gives index_of x t i n
+  pub index-quick : Holds Index x t i → {p e n : ℕ} → p ≡ get_or t i 0 → e ≡ get_or t (i + 1) 0 → Quick (slice p e x) (Some n) → Gives index_of x t i n
   unfolding Index index_of natural
-  index-quick h {p} {e} {n} q o k m f = record {
-    is = λ v s. sym (ap natural (integer-read v (h.holds v s).0 ∙ ap integer (sym (bytes (index_number h) q o v s)) ∙ k.value (omega (arith, f.fits))));
+  index-quick h {p} {e} {n} q o k = record {
+    is = λ v s. sym (ap natural (integer-read v (h.holds v s).0 ∙ ap integer (sym (bytes (index_number h) q o v s)) ∙ k.value n refl));
   }
 
   pub index-whole : Holds Index x t i → {p e : ℕ} {w : Whole} → p ≡ get_or t i 0 → e ≡ get_or t (i + 1) 0 → IsWhole (slice p e x) w → Gives index_of x t i w.magnitude
@@ -152,16 +155,17 @@ module _ {x t : List ℕ} {i : ℕ} where
   unfolding Triple
   triple-elements P h = holds_as (λ v p. p.1) h
 
-  triple-done : {A : Type 0} {P : Json → Type 0} {n k : ℕ} {d₀ d : List ℕ} {to r : ℕ} (enc : A → List ℕ) (read : Json → A)
-      → Holds (Triple P) x t i → Laying P (λ w. enc (read w)) x t i n k d₀ d to r → n ≤ k → Wrote (λ v. lay_three enc (three_of read v)) x t i d₀ d to r
+  triple-done : {A : Type 0} {P : Json → Type 0} {s : Siblings} {d₀ d : List ℕ} {to r : ℕ} (enc : A → List ℕ) (read : Json → A)
+      → Holds (Triple P) x t i → Laying P (λ w. enc (read w)) x t i s d₀ d to r → s.end ≤ s.at → Wrote (λ v. lay_three enc (three_of read v)) x t i d₀ d to r
   unfolding Triple
   triple-done enc read h p l = wrote_as (λ v s. three-each enc read v (h.holds v s).0) (laying-done p l)
 
-  module _ {n k : ℕ} {d₀ d : List ℕ} {to r : ℕ} where
-    pub pairs-done : Holds (Triple Pair) x t i → Laying Pair (λ w. lay_decimal (decimal_of w)) x t i n k d₀ d to r → n ≤ k → Wrote (λ v. lay_three lay_decimal (three_of decimal_of v)) x t i d₀ d to r
+  module _ {s : Siblings} {d₀ d : List ℕ} {to r : ℕ} where
+    pub pairs-done : Holds (Triple Pair) x t i → Laying Pair (λ w. lay_decimal (decimal_of w)) x t i s d₀ d to r → s.end ≤ s.at
+        → Wrote (λ v. lay_three lay_decimal (three_of decimal_of v)) x t i d₀ d to r
     pairs-done h p l = triple-done lay_decimal decimal_of h p l
 
-    pub vertex-done : Holds (Triple Coordinate) x t i → Laying Coordinate (λ w. signed 4 (integer_of w)) x t i n k d₀ d to r → n ≤ k
+    pub vertex-done : Holds (Triple Coordinate) x t i → Laying Coordinate (λ w. signed 4 (integer_of w)) x t i s d₀ d to r → s.end ≤ s.at
         → Wrote (λ v. lay_three (signed 4) (three_of integer_of v)) x t i d₀ d to r
     vertex-done h p l = triple-done (signed 4) integer_of h p l
 
@@ -197,48 +201,46 @@ module _ {x t : List ℕ} {i : ℕ} where
     unfolding lay_values nest_of
     values-leaf e w q = rw (q, e) w
 
-    pub values-done : {n k : ℕ} → (depth ≡ 0 → ⊥) → Laying (Leaves Value (depth - 1)) (λ w. lay_values (depth - 1) (nest_of value_of (depth - 1) w)) x t i n k d₀ d to r → n ≤ k
+    pub values-done : {s : Siblings} → (depth ≡ 0 → ⊥)
+        → Laying (Leaves Value (depth - 1)) (λ w. lay_values (depth - 1) (nest_of value_of (depth - 1) w)) x t i s d₀ d to r → s.end ≤ s.at
         → f ≡ (λ v. lay_values depth (nest_of value_of depth v)) → Wrote f x t i d₀ d to r
     values-done h p l q = rw q (wrote_as (λ v s. values-suc depth h v) (laying-done p l))
 
 -- ---- a boundary
 
--- what the loop over an array of a boundary knows: its elements up to the node k were to be written from `first` on, the place for the count is kept at `to`, and the cursor is `at`
-pub record Nesting (depth : ℕ) (x t : List ℕ) (i n k : ℕ) (d₀ d : List ℕ) (to first at count : ℕ) : Type 0 where
+-- what the loop over an array of a boundary knows when it has come to s: what was passed was to be written from `first` on,
+-- the place for the count is kept at `to`, and the cursor is `at`
+pub record Nesting (depth : ℕ) (x t : List ℕ) (i : ℕ) (s : Siblings) (d₀ d : List ℕ) (to first at count : ℕ) : Type 0 where
   pub deep : depth ≡ 0 → ⊥
   pub kept : Skips 4 to first
-  pub laying : Laying (Leaves Index (depth - 1)) (λ w. lay_nest (depth - 1) (nest_of index_of (depth - 1) w)) x t i n k d₀ d first at
-  pub counting : Counting x t i n k count
+  pub laying : Laying (Leaves Index (depth - 1)) (λ w. lay_nest (depth - 1) (nest_of index_of (depth - 1) w)) x t i s d₀ d first at
+  pub counting : Counting x t i s count
 
-module _ (depth : ℕ) {x t : List ℕ} {i n : ℕ} where
-  pub nesting-start : {d : List ℕ} {to first : ℕ} → Holds (Leaves Index depth) x t i → (depth ≡ 0 → ⊥) → Ends x t i n → Skips 4 to first → Nesting depth x t i n (i + 3) d d to first first 0
-  nesting-start h k e s = record { deep = k; kept = s; laying = laying-begin (deeper Index depth h k) e; counting = counting-start h.node e }
+module _ (depth : ℕ) {x t : List ℕ} {i : ℕ} {s : Siblings} where
+  pub nesting-start : {r : Siblings} {d : List ℕ} {to first : ℕ} → Holds (Leaves Index depth) x t i → (depth ≡ 0 → ⊥) → siblings.Elements x t i r → s ≡ r
+      → Skips 4 to first → Nesting depth x t i s d d to first first 0
+  nesting-start h k e q z = record { deep = k; kept = z; laying = laying-begin (deeper Index depth h k) e q; counting = counting-start h.node e q }
 
-  module _ {k : ℕ} {d₀ d : List ℕ} {to first at count : ℕ} (p : Nesting depth x t i n k d₀ d to first at count) where
+  module _ {d₀ d : List ℕ} {to first at count : ℕ} (p : Nesting depth x t i s d₀ d to first at count) where
     pub nesting-same : length d ≡ length d₀
     nesting-same = laying-same p.laying
 
-    module _ (l : k < n) where
+    module _ {k : ℕ} {u : Siblings} (g : StepsPast s k u) where
       pub nesting-item : Holds (Leaves Index (depth - 1)) x t k
-      nesting-item = laying-item p.laying l
+      nesting-item = laying-item p.laying g
 
       pub nesting-index : depth ≡ 1 → Holds Index x t k
       nesting-index e = leaf Index (depth - 1) nesting-item (omega arith)
 
-      pub nesting-room : k + 2 < length t
-      nesting-room = laying-room p.laying l
-
       pub nesting-fits : length t * 4 < 2 ^ 63 → Fits w64 (count + 1)
-      nesting-fits h = counting-fits p.counting l h
+      nesting-fits h = counting-fits p.counting g h
 
-      pub nesting-less : {m : ℕ} → m ≡ get_or t (k + 2) 0 → n - m < n - k
-      nesting-less q = laying-less p.laying l q
+      pub nesting-turn : {d' : List ℕ} {r : ℕ} → Wrote (λ v. lay_nest (depth - 1) (nest_of index_of (depth - 1) v)) x t k d d' at r
+          → Nesting depth x t i u d₀ d' to first r (count + 1)
+      nesting-turn w = record { deep = p.deep; kept = p.kept; laying = laying-turn p.laying g w; counting = counting-turn p.counting g }
 
-      pub nesting-turn : {m : ℕ} {d' : List ℕ} {r : ℕ} → Wrote (λ v. lay_nest (depth - 1) (nest_of index_of (depth - 1) v)) x t k d d' at r → m ≡ get_or t (k + 2) 0
-          → Nesting depth x t i n m d₀ d' to first r (count + 1)
-      nesting-turn w q = record { deep = p.deep; kept = p.kept; laying = laying-turn p.laying l w q; counting = counting-turn p.counting l q }
-
-    pub nesting-done : {f : Json → List ℕ} {d' : List ℕ} {q : ℕ} → n ≤ k → Writes (le 4 count) d d' to q → f ≡ (λ v. lay_nest depth (nest_of index_of depth v)) → Wrote f x t i d₀ d' to at
+    pub nesting-done : {f : Json → List ℕ} {d' : List ℕ} {q : ℕ} → s.end ≤ s.at → Writes (le 4 count) d d' to q
+        → f ≡ (λ v. lay_nest depth (nest_of index_of depth v)) → Wrote f x t i d₀ d' to at
     nesting-done h w e =
         let elems = laying-done p.laying h in
         let all = counting-done p.counting h in

@@ -1,5 +1,5 @@
 -- The bytes of numbers and of nested arrays, level by level.
-use Rattle.std.specs.Prelude.{ℕ, zero, suc, ◌+◌, ◌-◌, ◌^◌, ◌<◌, ◌≡◌, refl, Bool, true, false, cond, List, [], ◌∷◌, ◌++◌, map, length, get_or, ℤ, pos, negsuc}
+use Rattle.std.specs.Prelude.{ℕ, zero, suc, ◌^◌, ◌<◌, ◌≡◌, refl, Bool, true, false, cond, List, [], ◌∷◌, ◌++◌, map, length, get_or, ℤ, pos, negsuc}
 use Rattle.std.proofs.Common.{arith, sym, ap, ◌∙◌, append_assoc, append-nil, ltb-true}
 use Rattle.std.proofs.Math.Option.{some}
 use Rattle.std.proofs.Math.Option as option
@@ -12,7 +12,7 @@ use Rattle.numerals.specs.Reading.{saturated}
 use Rattle.json_text.specs.Tree.{Json, null, bool, num, str, arr, obj}
 use Rattle.nodes.specs.Access.{is_null_value, is_number_value, elements, numeral_of}
 use Rattle.utf8.specs.Bytes.{le}
-use Rattle.model.specs.Code.{signed, concat_map, Holds}
+use Rattle.model.specs.Code.{concat_map, Holds}
 use Rattle.model.specs.Good.{GoodDecimal}
 use Rattle.model.specs.Model.{lay_three, lay_nest, lay_values}
 use Rattle.model.specs.Read.{maybe_decimal, zero_if_none, decimal_of, integer_of, index_of, value_of, three_of, nest_of}

@@ -1,22 +1,15 @@
 -- What the writers ask and tell of a node.
-use Rattle.std.specs.Prelude.{List, ◌≡◌, ℕ, ◌+◌}
+use Rattle.std.specs.Prelude.{List, ℕ}
 use Rattle.std.proofs.Math.Option.{Option}
 use Rattle.json_text.specs.Tree.{Json}
 use Rattle.json_text.specs.Table.{Sub}
-use Rattle.json_text.specs.Laws.{Left}
-use Rattle.nodes.specs.Access.{listed, elements}
-use Rattle.nodes.specs.Says.{Node, Finds}
-use Rattle.nodes.specs.declared.Found.{Found}
+use Rattle.nodes.specs.Says.{Node, Finds, Found}
 use Rattle.writer.specs.Writes.{Writes}
 
 -- a value of the text x, which is short enough (rule 1), stands at the node i, and P holds of it
 pub record Holds (P : Json → Type 0) (x t : List ℕ) (i : ℕ) : Type 0 where
   pub node : Node x t i
   pub holds : (v : Json) → Sub x t i v → P v
-
--- the elements of the value at the node i stand from the node i + 3 up to n
-pub record Ends (x t : List ℕ) (i n : ℕ) : Type 0 where
-  pub left : (v : Json) → Sub x t i v → Left x t (i + 3) n (λ us. listed us ≡ elements v)
 
 -- the bytes that f gives for the value at the node i were to be written
 pub record Wrote (f : Json → List ℕ) (x t : List ℕ) (i : ℕ) (d₀ d : List ℕ) (to r : ℕ) : Type 0 where

@@ -10,33 +10,19 @@ ghost use Rattle.model.specs.Read.{decimal_of, integer_of, index_of, value_of, t
 ghost use Rattle.nodes.specs.Access.{elements};
 ghost use Rattle.nodes.specs.Says.{Node, Gives};
 ghost use Rattle.arrays.specs.Fits.{Pair, Coordinate, Index, Value, Elements, Triple, Leaves};
-ghost use Rattle.arrays.specs.Says.{Holds, Ends, Wrote};
-
-use shapes::Paired;
-
-// The node after the last element of a value: that of the first if it has none.
-pub fn elements_end(text: &[u8], table: &[u32], i: usize) -> usize
-    requires { Node text.now table.now i }
-    ensures { Ends text.now table.now i result }
-{
-    if nodes::is_array(text, table, i) {
-        return nodes::next(table, i);
-    }
-    i + 3
-}
+ghost use Rattle.arrays.specs.Says.{Holds, Wrote};
 
 // A transform number: its pair.
 fn pair(text: &[u8], table: &[u32], i: usize, sheet: &mut [u8], at: usize) -> usize
     requires { Holds Pair text.now table.now i }
     ensures { Wrote (λ v. lay_decimal (decimal_of v)) text.now table.now i sheet.old sheet.new at result }
 {
-    let answer = shapes::pair(text, table, i);
-    match answer {
-        Paired::Pair(m, e) => {
+    match shapes::pair(text, table, i) {
+        Ok((m, e)) => {
             let middle = writer::put8(sheet, at, writer::bits(m));
             writer::put2(sheet, middle, writer::bits(e))
         }
-        Paired::Fault(_) => at,
+        Err(_) => at,
     }
 }
 
@@ -46,12 +32,9 @@ pub fn pairs(text: &[u8], table: &[u32], i: usize, sheet: &mut [u8], at: usize) 
     ensures { Wrote (λ v. lay_three lay_decimal (three_of decimal_of v)) text.now table.now i
         sheet.old sheet.new at result }
 {
-    let n = elements_end(text, table, i);
     let mut o = at;
-    let mut k = i + 3;
-    while k < n {
+    for k in nodes::elements(text, table, i) {
         o = pair(text, table, k, sheet, o);
-        k = nodes::next(table, k);
     }
     o
 }
@@ -63,12 +46,10 @@ fn coordinate(text: &[u8], table: &[u32], i: usize, sheet: &mut [u8], at: usize)
 {
     let from = nodes::start(table, i);
     let to = nodes::end(table, i);
-    let n = numerals::quick(text, from, to);
-    if n != 0xffff_ffff_ffff_ffff {
-        return writer::put4(sheet, at, n);
+    match numerals::quick(text, from, to) {
+        Some(n) => writer::put4(sheet, at, n),
+        None => writer::put4(sheet, at, writer::bits(numerals::small(text, from, to))),
     }
-    let z = numerals::small(text, from, to);
-    writer::put4(sheet, at, writer::bits(z))
 }
 
 // A vertex: three coordinates.
@@ -77,12 +58,9 @@ fn vertex(text: &[u8], table: &[u32], i: usize, sheet: &mut [u8], at: usize) -> 
     ensures { Wrote (λ v. lay_three (signed 4) (three_of integer_of v)) text.now table.now i
         sheet.old sheet.new at result }
 {
-    let n = elements_end(text, table, i);
     let mut o = at;
-    let mut k = i + 3;
-    while k < n {
+    for k in nodes::elements(text, table, i) {
         o = coordinate(text, table, k, sheet, o);
-        k = nodes::next(table, k);
     }
     o
 }
@@ -93,12 +71,9 @@ pub fn vertices(text: &[u8], table: &[u32], i: usize, sheet: &mut [u8], at: usiz
     ensures { Wrote (λ v. concat_map (λ w. lay_three (signed 4) (three_of integer_of w)) (elements v)) text.now table.now i
         sheet.old sheet.new at result }
 {
-    let n = elements_end(text, table, i);
     let mut o = at;
-    let mut k = i + 3;
-    while k < n {
+    for k in nodes::elements(text, table, i) {
         o = vertex(text, table, k, sheet, o);
-        k = nodes::next(table, k);
     }
     o
 }
@@ -110,12 +85,10 @@ fn index_of(text: &[u8], table: &[u32], i: usize) -> u64
 {
     let from = nodes::start(table, i);
     let to = nodes::end(table, i);
-    let n = numerals::quick(text, from, to);
-    if n != 0xffff_ffff_ffff_ffff {
-        return n;
+    match numerals::quick(text, from, to) {
+        Some(n) => n,
+        None => numerals::integer(text, from, to).magnitude,
     }
-    let w = numerals::integer(text, from, to);
-    w.magnitude
 }
 
 // An index in four bytes.
@@ -123,8 +96,7 @@ fn index(text: &[u8], table: &[u32], i: usize, sheet: &mut [u8], at: usize) -> u
     requires { Holds Index text.now table.now i }
     ensures { Wrote (λ v. le 4 (index_of v)) text.now table.now i sheet.old sheet.new at result }
 {
-    let n = index_of(text, table, i);
-    writer::put4(sheet, at, n)
+    writer::put4(sheet, at, index_of(text, table, i))
 }
 
 // A boundary of that depth: each array as its count and its elements. The count is written last, at the place that was kept for it.
@@ -144,19 +116,16 @@ pub fn boundary(
     if depth == 0 {
         return index(text, table, i, sheet, at);
     }
-    let n = elements_end(text, table, i);
     let first = writer::skip(at, 4);
     let mut count: u64 = 0;
     let mut o = first;
-    let mut k = i + 3;
-    while k < n {
+    for k in nodes::elements(text, table, i) {
         if depth == 1 {
             o = index(text, table, k, sheet, o);
         } else {
             o = boundary(text, table, k, depth - 1, sheet, o);
         }
         count += 1;
-        k = nodes::next(table, k);
     }
     writer::put4(sheet, at, count);
     o
@@ -189,12 +158,9 @@ pub fn values(
     if depth == 0 {
         return value(text, table, i, sheet, at);
     }
-    let n = elements_end(text, table, i);
     let mut o = at;
-    let mut k = i + 3;
-    while k < n {
+    for k in nodes::elements(text, table, i) {
         o = values(text, table, k, depth - 1, sheet, o);
-        k = nodes::next(table, k);
     }
     o
 }

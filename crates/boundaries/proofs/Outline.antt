@@ -1,16 +1,15 @@
 -- Rules 12 and 13 of a boundary in one walk.
-use Prim.Native.Nat.{ℕ, ◌+◌, ◌-◌, ◌^◌, ◌<◌}
+use Prim.Native.Nat.{ℕ, ◌+◌, ◌-◌, ◌<◌}
 use mathlib.Core.Path.{◌≡◌, refl, sym, ap, ◌∙◌}
 use mathlib.Core.Bool.{Bool, true, false, not, ◌||◌}
 use mathlib.Core.List.{List, [], ◌++◌}
 use native.Mathlib.Omega.{arith}
+use Rattle.std.proofs.Common.{Option, Some}
 use lib.ListN.{get_or}
 use lib.Seq.{slice}
 use lib.Dec.{ltb}
 use lib.IntN.{pos}
-use mir.Syntax.{w64}
-use mir.Val.{Fits}
-use borrow.Author.Tests.{not-true, not-false, ltb-true}
+use borrow.Author.Tests.{not-true, not-false, lt-ltb}
 use Rattle.numerals.specs.Numerals.{is_integer, integer, is_below}
 use Rattle.numerals.specs.Reading.{Quick}
 use Rattle.json_text.specs.Tree.{Json}
@@ -54,16 +53,15 @@ below_at count n e = e
 
 module _ {x t : List ℕ} {i : ℕ} where
   -- a number below the count
-  pub clears-ranged : (count : ℕ) {b : Bool} {p e q : ℕ} → Gives is_number_value x t i b → not b ≡ false → p ≡ get_or t i 0 → e ≡ get_or t (i + 1) 0
-      → Quick (slice p e x) q → Fits w64 count → Clears (λ v. shaped 0 v ++ ranged count 0 v) x t i (ltb q count)
-  clears-ranged count {b} {p} {e} {q} g h f o k w = record { none = λ z v s. told v s (sym (g.is v s) ∙ not-false b h) z }
+  pub clears-ranged : (count : ℕ) {b : Bool} {p e : ℕ} {q : Option ℕ} → Gives is_number_value x t i b → not b ≡ false → p ≡ get_or t i 0 → e ≡ get_or t (i + 1) 0
+      → Quick (slice p e x) q → (r : Bool) → (r ≡ true → (n : ℕ) × (q ≡ Some n) × (n < count)) → Clears (λ v. shaped 0 v ++ ranged count 0 v) x t i r
+  clears-ranged count {b} {p} {e} {q} g h f o k r w = record { none = λ z v s. told v s (sym (g.is v s) ∙ not-false b h) (w z) }
     where
-      told : (v : Json) → Sub x t i v → is_number_value v ≡ true → ltb q count ≡ true → shaped 0 v ++ ranged count 0 v ≡ []
-      told v s n z =
-          let l : q < 2 ^ 64 - 1 = omega (arith, w.fits, ltb-true q count z) in
+      told : (v : Json) → Sub x t i v → is_number_value v ≡ true → (n : ℕ) × (q ≡ Some n) × (n < count) → shaped 0 v ++ ranged count 0 v ≡ []
+      told v s n (m, c, l) =
           let r : numeral_of v ≡ slice p e x = rw (f, o) (numeral-at s n).bytes in
-          let a : is_integer_value v ≡ true = integer-of v n (ap is_integer r ∙ k.whole l) in
-          let u : is_below count (integer (numeral_of v)) ≡ true = ap (λ raw. is_below count (integer raw)) r ∙ ap (is_below count) (k.value l) ∙ below_at count q z in
+          let a : is_integer_value v ≡ true = integer-of v n (ap is_integer r ∙ k.whole m c) in
+          let u : is_below count (integer (numeral_of v)) ≡ true = ap (λ raw. is_below count (integer raw)) r ∙ ap (is_below count) (k.value m c) ∙ below_at count m (lt-ltb m count l) in
           sound count v a (ap (λ (m : Bool). not m || is_below count (integer (numeral_of v))) n ∙ u)
 
   -- no integer, and an integer

@@ -23,12 +23,9 @@ pub fn shaped(text: &[u8], table: &[u32], i: usize, depth: usize, best: u32) -> 
     if !nodes::is_array(text, table, i) {
         return shapes::unless(false, 12, text, table, i, best);
     }
-    let n = nodes::next(table, i);
     let mut least = best;
-    let mut k = i + 3;
-    while k < n {
+    for k in nodes::elements(text, table, i) {
         least = shaped(text, table, k, depth - 1, least);
-        k = nodes::next(table, k);
     }
     least
 }
@@ -59,15 +56,9 @@ pub fn ranged(text: &[u8], table: &[u32], i: usize, depth: usize, count: usize, 
     if depth == 0 {
         return below(text, table, i, count, best);
     }
-    if !nodes::is_array(text, table, i) {
-        return best;
-    }
-    let n = nodes::next(table, i);
     let mut least = best;
-    let mut k = i + 3;
-    while k < n {
+    for k in nodes::elements(text, table, i) {
         least = ranged(text, table, k, depth - 1, count, least);
-        k = nodes::next(table, k);
     }
     least
 }
@@ -80,7 +71,8 @@ fn is_ranged(text: &[u8], table: &[u32], i: usize, count: usize) -> bool
     if !nodes::is_number(text, table, i) {
         return false;
     }
-    numerals::quick(text, nodes::start(table, i), nodes::end(table, i)) < count as u64
+    numerals::quick(text, nodes::start(table, i), nodes::end(table, i)).is_some_and(|n| n
+        < count as u64)
 }
 
 // Rules 12 and 13 of what stands at a boundary's last level: an integer, at least 0 and below the count.
@@ -109,16 +101,13 @@ pub fn boundary(text: &[u8], table: &[u32], i: usize, depth: usize, count: usize
     if !nodes::is_array(text, table, i) {
         return shapes::unless(false, 12, text, table, i, best);
     }
-    let n = nodes::next(table, i);
     let mut least = best;
-    let mut k = i + 3;
-    while k < n {
+    for k in nodes::elements(text, table, i) {
         if depth == 1 {
             least = leaf(text, table, k, count, least);
         } else {
             least = boundary(text, table, k, depth - 1, count, least);
         }
-        k = nodes::next(table, k);
     }
     least
 }
@@ -156,14 +145,9 @@ pub fn matches(text: &[u8], table: &[u32], b: usize, v: usize, depth: usize, bes
     if !agree(text, table, b, v) {
         return shapes::unless(false, 12, text, table, v, best);
     }
-    let n = nodes::next(table, v);
     let mut least = best;
-    let mut j = b + 3;
-    let mut k = v + 3;
-    while k < n {
+    for (j, k) in nodes::elements(text, table, b).zip(nodes::elements(text, table, v)) {
         least = matches(text, table, j, k, depth - 1, least);
-        j = nodes::next(table, j);
-        k = nodes::next(table, k);
     }
     least
 }

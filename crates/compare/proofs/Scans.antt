@@ -1,90 +1,83 @@
--- Comparing a string as it stands with a word or another string.
+-- Comparing strings as they stand.
 use Prim.Native.Nat.{ℕ, ◌+◌, ◌-◌, ◌≤◌, ◌<◌}
 use native.Mathlib.Omega.{arith}
-use mathlib.Core.Path.{◌≡◌, refl, sym, ◌∙◌}
+use mathlib.Core.Path.{◌≡◌, refl, ap, ◌∙◌}
 use mathlib.Core.Bool.{Bool, true, false, not}
-use mathlib.Core.List.{List, []}
-use lib.ListN.{length, get_or, drop, drop_of_length-le}
+use mathlib.Core.List.{List, [], ◌∷◌}
+use lib.ListN.{length, get_or, take, drop, drop_of_length-le}
+use native.Mathlib.Numerals.{add-one}
+use lib.Seq.{drop-cons}
 use lib.Dec.{eqb}
 use borrow.Author.Tests.{lt-ltb, le-ltb, eq-eqb, ne_eqb}
 use Rattle.utf8.specs.Utf8.{same}
+use Rattle.strings.specs.Strings.{decode, pieces, decoded}
 use Rattle.strings.specs.Spans.{Span, decode_at, begin_apart}
-use Rattle.strings.specs.Laws.{onward, at-end}
-use Rattle.compare.specs.Says.{Spelled, LooksSame}
-use Rattle.compare.proofs.Loops.{both_end, plain-word-wrong, plain-word-more, plain-both-more}
+use Rattle.compare.specs.Says.{TellsSame}
+use Rattle.strings.specs.Laws.{plain_byte, taken}
 
--- a word and as many bytes of the text, byte by byte
-pub spelled_none : (x : List ℕ) (at : ℕ) (w : List ℕ) → Spelled x at w false
-unfolding Spelled
-spelled_none x at w = tt
+-- two strings that are alike before k, with no backslash there
+pub record Prefix (l m : List ℕ) (k : ℕ) : Type 0 where
+  pub first : k ≤ length l
+  pub second : k ≤ length m
+  pub word : same l (decode m) ≡ same (drop k l) (decode (drop k m))
+  pub string : same (decode l) (decode m) ≡ same (decode (drop k l)) (decode (drop k m))
 
-module _ (x : List ℕ) (at : ℕ) (w : List ℕ) (h : at + length w ≤ length x) where
-  pub spell-begin : same w (decode_at x at (at + length w)) ≡ same (drop 0 w) (decode_at x (at + 0) (at + length w))
-  spell-begin = let z : at + 0 ≡ at = omega arith in rw z
+pub prefix-start : (l m : List ℕ) → Prefix l m 0
+prefix-start l m = record { first = omega arith; second = omega arith; word = refl; string = refl }
 
-  module _ (k : ℕ) (q : same w (decode_at x at (at + length w)) ≡ same (drop k w) (decode_at x (at + k) (at + length w))) where
-    rest : k ≤ length w → Span x (at + k) (at + length w)
-    rest l = record { low = omega arith; high = h }
+-- the next byte of a string
+next-byte : (l : List ℕ) (k : ℕ) → k < length l → drop k l ≡ get_or l k 0 ∷ drop (k + 1) l
+next-byte l k h = rw (drop-cons l k 0 h, add-one k)
 
-    pub spell-more : k < length w → get_or x (at + k) 0 ≡ get_or w k 0 → (get_or x (at + k) 0 ≡ 92 → ⊥)
-        → same w (decode_at x at (at + length w)) ≡ same (drop (k + 1) w) (decode_at x (at + (k + 1)) (at + length w))
-    spell-more l f n =
-        let z : at + k + 1 ≡ at + (k + 1) = omega arith in
-        rw z at (plain-word-more (rest (omega arith)) (omega arith) n w _ w k q (omega arith) (λ e. omega arith) (sym f))
+nothing : decode [] ≡ []
+unfolding decode pieces decoded
+nothing = refl
 
-    pub spell-done : k ≤ length w → length w ≤ k → Spelled x at w true
-    unfolding Spelled
-    spell-done l g =
-        let z : decode_at x (at + k) (at + length w) ≡ [] = at-end (rest l) (omega arith) in
-        both_end _ _ _ _ q (drop_of_length-le w {i = k} g) z
+module _ {l m : List ℕ} {k : ℕ} (p : Prefix l m k) where
+  pub prefix-all : length l ≤ k → length m ≤ k → TellsSame l m true
+  unfolding same
+  prefix-all f g =
+      let a : drop k l ≡ [] = drop_of_length-le l {i = k} f in
+      let b : drop k m ≡ [] = drop_of_length-le m {i = k} g in
+      record { word = rw (p.word, a, b, nothing); string = rw (p.string, a, b, nothing) }
 
--- the string from at up to end, and a word
-module _ (x : List ℕ) (at end : ℕ) (w : List ℕ) (s : Span x at end) where
-  pub begins-other : at < end → 0 < length w → (get_or x at 0 ≡ get_or w 0 0 → ⊥) → (get_or x at 0 ≡ 92 → ⊥) → false ≡ same w (decode_at x at end)
-  begins-other a b f n = plain-word-wrong s a n w _ w 0 refl (omega arith) (λ e. omega arith) (λ e. f (sym e))
+  module _ (f : k < length l) (g : k < length m) (n : get_or l k 0 ≡ 92 → ⊥) (o : get_or m k 0 ≡ 92 → ⊥) where
+    one : decode (drop k l) ≡ get_or l k 0 ∷ decode (drop (k + 1) l)
+    one = ap decode (next-byte l k f) ∙ plain_byte (get_or l k 0) (drop (k + 1) l) n
 
-  module _ (q : end - at ≡ length w) where
-    pub spell-room : at + length w ≤ length x
-    spell-room = omega (arith, s.low, s.high)
+    other : decode (drop k m) ≡ get_or m k 0 ∷ decode (drop (k + 1) m)
+    other = ap decode (next-byte m k g) ∙ plain_byte (get_or m k 0) (drop (k + 1) m) o
 
-    pub spelled_same : (r : Bool) → Spelled x at w r → r ≡ true → true ≡ same w (decode_at x at end)
-    unfolding Spelled
-    spelled_same r a z = let e : at + length w ≡ end = omega (arith, s.low) in rw (z, e) at a
+    prefix-more : get_or l k 0 ≡ get_or m k 0 → Prefix l m (k + 1)
+    unfolding same
+    prefix-more e =
+        let t : eqb (get_or l k 0) (get_or m k 0) ≡ true = eq-eqb (get_or l k 0) (get_or m k 0) e in
+        record {
+          first = omega arith;
+          second = omega arith;
+          word = p.word ∙ rw (next-byte l k f, other, t);
+          string = p.string ∙ rw (one, other, t);
+        }
 
--- two strings of one length, byte by byte
-pub agree-none : (x : List ℕ) (at end at2 : ℕ) → LooksSame x at end at2 false
-unfolding LooksSame
-agree-none x at end at2 = tt
+    pub prefix-wrong : (get_or l k 0 ≡ get_or m k 0 → ⊥) → TellsSame l m false
+    unfolding same
+    prefix-wrong e =
+        let t : eqb (get_or l k 0) (get_or m k 0) ≡ false = ne_eqb (get_or l k 0) (get_or m k 0) e in
+        record { word = rw (p.word, next-byte l k f, other, t); string = rw (p.string, one, other, t) }
 
-module _ (x : List ℕ) (i end j at at2 : ℕ) (s : Span x i end) (t : Span x j (at2 + (end - at))) (e : i + at2 ≡ j + at) where
-  module _ (a : i < end) where
-    pub level : j < at2 + (end - at)
-    level = omega arith
+  -- the next bytes are alike
+  pub prefix-on : k < length l → k < length m → (get_or l k 0 ≡ 92 → ⊥) → get_or l k 0 ≡ get_or m k 0 → Prefix l m (k + 1)
+  prefix-on f g n e = prefix-more f g n (λ z. n (e ∙ z)) e
 
-    pub level-inside : j < length x
-    level-inside = omega (arith, t.high)
+-- what is told of two strings of a text
+module _ {x : List ℕ} {at end : ℕ} (s : Span x at end) {w : List ℕ} {r : Bool} where
+  pub told-word : TellsSame w (take (end - at) (drop at x)) r → r ≡ same w (decode_at x at end)
+  unfolding decode_at
+  told-word t = rw (taken s) at t.word
 
-    pub level-onward : Span x (j + 1) (at2 + (end - at))
-    level-onward = onward t level
-
-    pub level-again : i + 1 + at2 ≡ j + 1 + at
-    level-again = omega arith
-
-    pub level-more : (v u : List ℕ) → same v u ≡ same (decode_at x i end) (decode_at x j (at2 + (end - at))) → get_or x i 0 ≡ get_or x j 0 → (get_or x i 0 ≡ 92 → ⊥)
-        → same v u ≡ same (decode_at x (i + 1) end) (decode_at x (j + 1) (at2 + (end - at)))
-    level-more v u q f n = plain-both-more s a n t level (λ h. n (f ∙ h)) v u q f
-
-  pub agree-all : Span x at end → end ≤ i → same (decode_at x at end) (decode_at x at2 (at2 + (end - at))) ≡ same (decode_at x i end) (decode_at x j (at2 + (end - at))) → LooksSame x at end at2 true
-  unfolding LooksSame
-  agree-all w l q = both_end _ _ _ _ q (at-end s l) (at-end t (omega (arith, w.low)))
-
-module _ (x : List ℕ) (at end at2 end2 : ℕ) (t : Span x at2 end2) (q : end - at ≡ end2 - at2) where
-  pub agree-span : Span x at2 (at2 + (end - at))
-  agree-span = record { low = omega arith; high = omega (arith, t.low, t.high) }
-
-  pub agree_same : (r : Bool) → LooksSame x at end at2 r → r ≡ true → true ≡ same (decode_at x at end) (decode_at x at2 end2)
-  unfolding LooksSame
-  agree_same r a z = let w : at2 + (end - at) ≡ end2 = omega (arith, t.low) in rw (z, w) at a
+pub told-string : {x : List ℕ} {at end at2 end2 : ℕ} → Span x at end → Span x at2 end2 → {r : Bool} → TellsSame (take (end - at) (drop at x)) (take (end2 - at2) (drop at2 x)) r → r ≡ same (decode_at x at end) (decode_at x at2 end2)
+unfolding decode_at
+told-string s t h = rw (taken s, taken t) at h.string
 
 -- the first bytes of two strings
 module _ (x : List ℕ) (at end at2 end2 : ℕ) where

@@ -1,2 +1,1 @@
--- What the inner functions tell.
 pub mod Says

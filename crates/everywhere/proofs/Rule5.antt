@@ -14,11 +14,9 @@ use Rattle.utf8.specs.Laws.{clash}
 use Rattle.strings.specs.Strings.{unpaired_from}
 use Rattle.strings.specs.Spans.{Span, unpaired_at, first_of}
 use Rattle.strings.specs.Laws.{Rising, unpaired-rising, found_within}
-use Rattle.strings.specs.declared.Found.{Found}
-use Rattle.strings.specs.declared.Found.TheVariants.{At, Nothing}
+use Rattle.std.specs.Prelude.{Option, None, Some}
 use Rattle.json_text.specs.Tree.{Json}
 use Rattle.json_text.specs.Tree as tree
-use Rattle.json_text.specs.Table.{null, bool, num, str, arr, obj}
 use Rattle.nodes.specs.Access.{is_string_value}
 use Rattle.nodes.specs.Faults.{fault, least}
 use Rattle.nodes.specs.Laws.{StringAt, quoted-at, string-at, raw_of, kinds, place_at}
@@ -78,12 +76,12 @@ rising-least rule b n e (p ∷ ps) h r =
     let z : min b (fault rule p) ≡ b = omega (arith, r.0) in
     ap (λ (m : ℕ). least m (map (fault rule) ps)) z ∙ rising-least rule b (p + 1) e ps (omega (arith, r.0)) r.2
 
-first-least : (rule b n e p : ℕ) (ps : List ℕ) → Rising n e ps → first_of ps ≡ At p → least b (map (fault rule) ps) ≡ min b (fault rule p)
+first-least : (rule b n e p : ℕ) (ps : List ℕ) → Rising n e ps → first_of ps ≡ Some p → least b (map (fault rule) ps) ≡ min b (fault rule p)
 unfolding least fault Rising first_of
 first-least rule b n e p [] r f = clash cc
 first-least rule b n e p (q ∷ ps) r f = let z : q ≡ p = cc in rising-least rule (min b (fault rule q)) (q + 1) e ps (omega arith) r.2 ∙ ap (λ (m : ℕ). min b (fault rule m)) z
 
-first-none : (ps : List ℕ) → first_of ps ≡ Nothing → ps ≡ []
+first-none : (ps : List ℕ) → first_of ps ≡ None → ps ≡ []
 unfolding first_of
 first-none [] f = refl
 first-none (q ∷ ps) f = clash cc
@@ -102,8 +100,8 @@ module _ {x t : List ℕ} {i p : ℕ} (a : AnyPart x t i) (q : p ≡ get_or t i 
     pub any-span : Span x (p + 1) (e - 1)
     any-span = rw (q, r) (any-string a.stands).string.span
 
-    module _ {f : Found} (g : f ≡ first_of (unpaired_at x (p + 1) (e - 1))) where
-      pub unpaired-low : {o : ℕ} → f ≡ At o → o ≤ 65535
+    module _ {f : Option ℕ} (g : f ≡ first_of (unpaired_at x (p + 1) (e - 1))) where
+      pub unpaired-low : {o : ℕ} → f ≡ Some o → o ≤ 65535
       unpaired-low {o} m =
           let s = any-span in
           let k = found_within x (p + 1) (e - 1) o s (sym g ∙ m) in
@@ -112,7 +110,7 @@ module _ {x t : List ℕ} {i p : ℕ} (a : AnyPart x t i) (q : p ≡ get_or t i 
       own-here : {d : Part} → Stands x t i d → own5 d ≡ unpaired_at x (p + 1) (e - 1)
       own-here s = rw (q, r) (any-string s).own
 
-      pub unpaired-hit : {o u b w : ℕ} → f ≡ At o → u ≡ fault 5 o → w ≡ min b u → PartGives 5 own5 x t i b w
+      pub unpaired-hit : {o u b w : ℕ} → f ≡ Some o → u ≡ fault 5 o → w ≡ min b u → PartGives 5 own5 x t i b w
       unfolding unpaired_at
       unpaired-hit {o} {u} {b} {w} m y z =
           record {
@@ -125,7 +123,7 @@ module _ {x t : List ℕ} {i p : ℕ} (a : AnyPart x t i) (q : p ≡ get_or t i 
                 ∙ first-least 5 b (p + 1) _ o (unpaired_at x (p + 1) (e - 1)) (unpaired-rising (p + 1) (slice (p + 1) (e - 1) x)) (sym g ∙ m)));
           }
 
-      pub unpaired-miss : (b : ℕ) → f ≡ Nothing → PartGives 5 own5 x t i b b
+      pub unpaired-miss : (b : ℕ) → f ≡ None → PartGives 5 own5 x t i b b
       unfolding least
       unpaired-miss b m = record { is = λ d s. rw (own-here s, first-none _ (sym g ∙ m)) }
 

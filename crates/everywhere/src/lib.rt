@@ -8,14 +8,10 @@ ghost use Rattle.nodes.specs.Says.{Root, Gives};
 ghost use Rattle.everywhere.specs.Everywhere.{rule5};
 ghost use Rattle.everywhere.specs.Says.{AnyPart, PartGives, own5};
 ghost use Rattle.everywhere.specs.Chains.{hash_from, chain_of};
-ghost use Rattle.strings.specs.Spans.{Span, decode_at, ahead};
+ghost use Rattle.strings.specs.Spans.{Span, decode_at};
+ghost use Rattle.strings.specs.Ahead.{ahead};
 
-// A number as one of full width.
-fn wide(w: u32) -> usize
-    ensures { result ≡ w }
-{
-    w as usize
-}
+use strings::Decoder;
 
 // Rule 5 at a node, if a string or a name stands there: an unpaired surrogate escape, at its backslash.
 fn unpaired_at(text: &[u8], table: &[u32], i: usize, best: u32) -> u32
@@ -27,10 +23,9 @@ fn unpaired_at(text: &[u8], table: &[u32], i: usize, best: u32) -> u32
         return best;
     }
     let to = nodes::end(table, i);
-    let found = strings::first_unpaired(text, from + 1, to - 1);
-    match found {
-        strings::Found::At(p) => nodes::lesser(best, nodes::fault_at(5, p)),
-        strings::Found::Nothing => best,
+    match strings::first_unpaired(text, from + 1, to - 1) {
+        Some(p) => nodes::lesser(best, nodes::fault_at(5, p)),
+        None => best,
     }
 }
 
@@ -43,19 +38,10 @@ pub fn unpaired(text: &[u8], table: &[u32], n: usize, best: u32) -> u32
         return best;
     }
     let mut least = best;
-    let mut k = 0;
-    while k < n {
+    for k in (0..n).step_by(3) {
         least = unpaired_at(text, table, k, least);
-        k += 3;
     }
     least
-}
-
-// A byte as a wider number.
-fn wide_byte(b: u8) -> u32
-    ensures { result ≡ b }
-{
-    b as u32
 }
 
 // The number of some bytes, with one byte more.
@@ -63,49 +49,35 @@ fn mixed(h: u32, b: u8) -> u32
     requires { h < 67108864 }
     ensures { (result ≡ (h * 59 + b) % 67108864) × (result < 67108864) }
 {
-    (h * 59 + wide_byte(b)) % 67108864
+    (h * 59 + u32::from(b)) % 67108864
 }
 
-// The number of the bytes that the cursor has ahead, where those before have the number `seed`.
-fn hash_ahead(text: &[u8], from: strings::Cursor, seed: u32) -> u32
-    requires { (Span text.now from.at from.end) × (seed < 67108864) }
-    ensures { result ≡ hash_from seed (ahead text.now from) }
+// The number of the bytes that the decoder has ahead, where those before have the number `seed`.
+#[inline(never)]
+fn hash_ahead(rest: Decoder, seed: u32) -> u32
+    requires { seed < 67108864 }
+    ensures { result ≡ hash_from seed (ahead rest.entry) }
 {
-    let mut c = from;
     let mut h = seed;
-    loop {
-        let s = strings::next(text, c);
-        let strings::Step::Byte(b, d) = s else {
-            return h;
-        };
+    for b in rest {
         h = mixed(h, b);
-        c = d;
     }
+    h
 }
 
-// The number of the bytes that a string stands for.
+// The number of the bytes that a string stands for. Byte by byte up to a backslash, and from there on decoded: a loop over a decoder alone is slower
+// (counted at `strings::decoded_length`, it takes 14 instructions a byte in place of 8).
 fn hash(text: &[u8], at: usize, end: usize) -> u32
     requires { Span text.now at end }
     ensures { result ≡ hash_from 0 (decode_at text.now at end) }
 {
-    let mut i = at;
     let mut h = 0;
-    while i < end {
+    for i in at..end {
         let b = text[i];
         if b == b'\\' {
-            return hash_ahead(
-                text,
-                strings::Cursor {
-                    at: i,
-                    end: end,
-                    word: 0,
-                    left: 0,
-                },
-                h,
-            );
+            return hash_ahead(Decoder::new(text, i, end), h);
         }
         h = mixed(h, b);
-        i += 1;
     }
     h
 }
@@ -116,5 +88,5 @@ pub fn chain_of(text: &[u8], at: usize, end: usize) -> usize
     ensures { (result ≡ chain_of (decode_at text.now at end)) × (result < 4096) }
 {
     let h = hash(text, at, end);
-    wide(h % 4096)
+    (h % 4096) as usize
 }

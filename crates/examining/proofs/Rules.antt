@@ -1,9 +1,10 @@
 -- What the proofs of the functions that examine use.
 use Prim.Native.Nat.{ℕ, ◌-◌, ◌≤◌, ◌<◌}
 use native.Mathlib.Omega.{arith}
-use mathlib.Core.Path.{◌≡◌, ap, ◌∙◌, subst}
+use mathlib.Core.Path.{◌≡◌, ap, sym, ◌∙◌, subst}
 use mathlib.Core.List.{List, map}
 use lib.ListN.{length, take, drop}
+use Rattle.std.specs.Prelude.{Result, Ok, Err}
 use borrow.Author.Rules.{rules}
 use borrow.Author.Tests.{lt-ltb, le-ltb}
 use Rattle.utf8.specs.Utf8.{whole_length}
@@ -12,8 +13,8 @@ use Rattle.json_text.specs.Machine.{reads}
 use Rattle.json_text.specs.Tree.{Json}
 use Rattle.json_text.specs.Table.{Sub}
 use Rattle.json_text.specs.Parse.{Tells}
-use Rattle.json_text.specs.declared.Parsed.{Parsed}
-use Rattle.json_text.specs.declared.Parsed.TheVariants as parse
+use Rattle.json_text.specs.declared.Unread.{Unread}
+use Rattle.json_text.specs.declared.Unread.TheVariants.{Bad, Deep, Long, Short}
 use Rattle.everywhere.specs.Everywhere.{rule5, rule6}
 use Rattle.nodes.specs.Faults.{fault, least, no_fault}
 use Rattle.nodes.specs.Says.{Gives}
@@ -29,13 +30,11 @@ use Rattle.links.specs.Says.{Ready, LinksGive}
 use Rattle.verdict.specs.Verdict.{faults, parsed, screening}
 use Rattle.verdict.proofs.Exact.{in-text}
 use Rattle.verdict.specs.Places.{Placed, early}
-use Rattle.refusals.specs.Refusals.{rule_number}
+use Rattle.refusals.specs.Refusals.{rule_number, unread_as}
 use Rattle.refusals.specs.declared.Broken.TheVariants as broken
-use Rattle.examining.specs.declared.Screened.TheVariants as screened
-use Rattle.examining.specs.declared.Opened.{Opened}
-use Rattle.examining.specs.declared.Opened.TheVariants as opened
-use Rattle.examining.specs.Examining.{screened_as, tree_or_refusal, opened_as, Room, Stands, TreeIn, Opens, Linked, Rows, offsets_of, LinkedBy, TreeExamined, Examined, RowsOf}
-use Rattle.examining.specs.Laws.{lent-offsets, index-offsets}
+use Rattle.refusals.specs.declared.Refusal.{Refusal}
+use Rattle.examining.specs.Examining.{screened_as, tree_or_refusal, opened_as, Room, Stands, TreeIn, Opens, Linked, Rows, offsets_of, TreeExamined, Examined, RowsOf}
+use Rattle.examining.specs.Laws.{index-offsets, tabled, table-refused}
 use Rattle.examining.specs.Least.{early-passes, all-passes, before-links, no-repeat, no-schema, from-five, few-objects}
 use Rattle.examining.proofs.Alone.{alone}
 use Rattle.examining.proofs.Rooms.{room_for}
@@ -43,45 +42,39 @@ use Rattle.examining.proofs.Rooms.{room_for}
 -- ---- rules 1 and 2
 
 module _ (x : List ℕ) where
-  pub screen-long : 65535 < length x → screened_as (screened.Refused (record { rule = broken.TooLong; place = 65535; end = 65535 })) ≡ screening x
+  pub screen-long : {f : Refusal} → 65535 < length x → f ≡ record { rule = broken.TooLong; place = 65535; end = 65535 } → screened_as (Err f) ≡ screening x
   unfolding screened_as screening rule_number
-  screen-long h = rw (lt-ltb 65535 (length x) h)
+  screen-long h e = rw (lt-ltb 65535 (length x) h, e)
 
   module _ {n : ℕ} (short : length x ≤ 65535) (whole : n ≡ whole_length x) where
-    pub screen-odd : n < length x → screened_as (screened.Refused (record { rule = broken.NotUtf8; place = n; end = n })) ≡ screening x
+    pub screen-odd : {f : Refusal} → n < length x → f ≡ record { rule = broken.NotUtf8; place = n; end = n } → screened_as (Err f) ≡ screening x
     unfolding screened_as screening rule_number
-    screen-odd h = rw (le-ltb 65535 (length x) short, lt-ltb (whole_length x) (length x) (omega arith), whole)
+    screen-odd h e = rw (le-ltb 65535 (length x) short, lt-ltb (whole_length x) (length x) (omega arith), e, whole)
 
-    pub screen-passed : length x ≤ n → screened_as screened.Passed ≡ screening x
+    pub screen-passed : length x ≤ n → screened_as (Ok tt) ≡ screening x
     unfolding screened_as screening
     screen-passed h = rw (le-ltb 65535 (length x) short, le-ltb (whole_length x) (length x) (omega arith))
 
 -- ---- rules 3 and 4
 
-module _ (x t₀ t : List ℕ) {r : Parsed} (h : Tells x t₀ t r) where
-  pub open-tree : {n : ℕ} → r ≡ parse.Nodes n → Opens x t₀ t (opened.Tree n)
+module _ (x t₀ t : List ℕ) {r : Result ℕ Unread} (h : Tells x t₀ t r) where
+  pub open-tree : {n : ℕ} → r ≡ Ok n → Opens x t₀ t (Ok n)
   unfolding Tells opened_as tree_or_refusal
   open-tree {n} e =
       let s = subst (Tells x t₀ t) e h in
       let m : TreeIn x t₀ t n = record { tree = record { value = s.value; short = s.short; reads = s.reads; stands = s.stands; ends = s.ends }; rest = s.rest } in
       record { is = rw (s.reads, s.ends); holds = λ k q. let z : n ≡ k = cc in rw (← z) m }
 
-  pub open-bad : {p : ℕ} → r ≡ parse.Bad p → Opens x t₀ t (opened.Refused (record { rule = broken.NotJson; place = p; end = p }))
-  unfolding Tells opened_as tree_or_refusal parsed rule_number
-  open-bad e = record { is = rw (subst (Tells x t₀ t) e h).1; holds = λ k q. clash cc }
-
-  pub open-deep : {p : ℕ} → r ≡ parse.Deep p → Opens x t₀ t (opened.Refused (record { rule = broken.TooDeep; place = p; end = p }))
-  unfolding Tells opened_as tree_or_refusal parsed rule_number
-  open-deep e = record { is = rw (subst (Tells x t₀ t) e h).1; holds = λ k q. clash cc }
-
-  -- neither happens
-  pub open-long : (o : Opened) → Room x t₀ → r ≡ parse.Long → Opens x t₀ t o
-  unfolding Tells
-  open-long o k e = absurd (omega (arith, (subst (Tells x t₀ t) e h).0, k.short))
-
-  pub open-short : (o : Opened) → Room x t₀ → r ≡ parse.Short → Opens x t₀ t o
-  unfolding Tells
-  open-short o k e = absurd (omega (arith, (subst (Tells x t₀ t) e h).1, k.long))
+  -- that the text is too long, or the table too short, does not happen
+  pub open-unread : {u : Unread} {f : Refusal} → Room x t₀ → r ≡ Err u → f ≡ unread_as u → Opens x t₀ t (Err f)
+  unfolding Tells opened_as tree_or_refusal parsed rule_number unread_as
+  open-unread {u} {f} k e q = of u (subst (Tells x t₀ t) e h) q
+    where
+      of : (v : Unread) → Tells x t₀ t (Err v) → f ≡ unread_as v → Opens x t₀ t (Err f)
+      of (Bad p) s z = record { is = rw (z, s.1); holds = λ n y. clash cc }
+      of (Deep p) s z = record { is = rw (z, s.1); holds = λ n y. clash cc }
+      of Long s z = absurd (omega (arith, s.0, k.short))
+      of Short s z = absurd (omega (arith, s.1, k.long))
 
 -- ---- rules 5 to 14
 
@@ -99,12 +92,6 @@ linked-ready d b a = record { value = d.value; stands = d.stands; short = d.shor
 
 pub rows_are : {x t offsets children parents : List ℕ} → Listed x t offsets "children" children → Listed x t offsets "parents" parents → Rows x t offsets children parents
 rows_are b a = record { below = b; above = a }
-
-pub linked-lent : {x t : List ℕ} {index : Index} → LinkedBy x t index → Linked x t (take (index.count - 0) (drop 0 index.offsets))
-linked-lent {index = index} d = rw (lent-offsets index) d.linked
-
-pub rows-lent : {x t : List ℕ} (index : Index) {children parents : List ℕ} → Rows x t (take (index.count - 0) (drop 0 index.offsets)) children parents → Rows x t (offsets_of index) children parents
-rows-lent index r = rw (← lent-offsets index) r
 
 -- ---- rules 5 to 17
 
@@ -135,26 +122,28 @@ module _ {x t : List ℕ} {n : ℕ} {w : Walked} (s : Stands x t n) (d : TreeExa
   offsets_are : no_fault ≤ w.least → (v : Json) → Sub x t 0 v → Offsets x t (objects_of v) (offsets_of w.index)
   offsets_are h v u = index-offsets (d.indexed.is v u) (subst (λ j. length (objects_of j) ≤ 1024) (unique s.stands u) (few h))
 
-  pub examine-linked : no_fault ≤ w.least → LinkedBy x t w.index
-  examine-linked h = let i = d.indexed.is s.value s.stands in record {
-    room = i.room;
-    few = omega (arith, i.count);
-    linked = record {
-      value = s.value;
-      stands = s.stands;
-      short = s.short;
-      indexed = offsets_are h;
-      alone = alone s.value (no-repeat s.value placed walked h);
-    };
+  pub index-few : w.index.count ≤ 1024
+  index-few = omega (arith, (d.indexed.is s.value s.stands).count)
+
+  pub examine-linked : {offsets : List ℕ} → no_fault ≤ w.least → offsets ≡ offsets_of w.index → Linked x t offsets
+  examine-linked h e = record {
+    value = s.value;
+    stands = s.stands;
+    short = s.short;
+    indexed = rw e (offsets_are h);
+    alone = alone s.value (no-repeat s.value placed walked h);
   }
 
   module _ {e : ℕ} where
     pub examine-late : no_fault ≤ w.least → LinksGive x t w.least e → Examined x t (record { index = w.index; least = e })
     examine-late h g = examined s d.indexed (all-passes s.value walked (g.is s.value s.stands))
 
-pub late-rows : {x t : List ℕ} {index : Index} {e : ℕ} {children parents : List ℕ} → Rows x t (offsets_of index) children parents → RowsOf x t (record { index = index; least = e }) children parents
-late-rows r = record { are = λ k. r }
+pub late-rows : {x t offsets : List ℕ} {index : Index} {e : ℕ} {children parents : List ℕ} → offsets ≡ offsets_of index → Rows x t offsets children parents
+    → RowsOf x t (record { index = index; least = e }) children parents
+late-rows q r = record { are = λ k. rw q at r }
 
-pub ruleset opens = (rules, screen-long, screen-odd, screen-passed, open-tree, open-bad, open-deep, open-long, open-short)
+pub ruleset opens = (rules, screen-long, screen-odd, screen-passed, open-tree, open-unread)
 
-pub ruleset examines = (rules, tree-examined, room_for, linked-objects, linked-ready, rows_are, linked-lent, rows-lent, examine-early, early-rows, examine-linked, examine-late, late-rows)
+pub ruleset examines = (rules, tree-examined, room_for, linked-objects, linked-ready, rows_are, examine-early, early-rows, index-few, examine-linked, examine-late, late-rows)
+
+pub ruleset refuses = (rules, tabled, table-refused)

@@ -1,5 +1,5 @@
 -- What the parts of judge and lay answer.
-use Rattle.std.specs.Prelude.{◌≡◌, List, [], ◌⊎◌, ℕ, ◌+◌, ◌*◌, ◌<◌, ◌≤◌, length, get_or, take}
+use Rattle.std.specs.Prelude.{◌≡◌, List, [], ◌⊎◌, ℕ, ◌+◌, ◌*◌, ◌<◌, ◌≤◌, length, get_or, take, Result, Ok, Err}
 use Rattle.std.proofs.Common.{inl, inr}
 use Rattle.std.proofs.Math.Option.{Option, none, some}
 use Rattle.json_text.specs.Tree.{Json}
@@ -17,10 +17,7 @@ use Rattle.schema.specs.declared.Walked.{Walked}
 use Rattle.verdict.specs.Places.{early}
 use Rattle.verdict.specs.Verdict as verdict
 use Rattle.refusals.specs.Refusals.{refusal}
-use Rattle.examining.specs.declared.Screened.{Screened}
-use Rattle.examining.specs.declared.Screened.TheVariants as screened
-use Rattle.examining.specs.declared.Opened.{Opened}
-use Rattle.examining.specs.declared.Opened.TheVariants as opened
+use Rattle.refusals.specs.declared.Refusal.{Refusal}
 
 -- the first n words of the table t are those of the tree that the text x, which is not too long, is read as
 pub record Stands (x t : List ℕ) (n : ℕ) : Type 0 where
@@ -36,9 +33,9 @@ pub record Room (x t : List ℕ) : Type 0 where
   pub long : 3 * length x + 99 ≤ 2 * length t
 
 -- what `screen` answers, as the refusal by rule 1 or 2, if there is one
-unfoldable pub screened_as : Screened → Option verdict.Verdict
-screened_as screened.Passed = none
-screened_as (screened.Refused f) = some (refusal f)
+unfoldable pub screened_as : Result (Unit {0}) Refusal → Option verdict.Verdict
+screened_as (Ok u) = none
+screened_as (Err f) = some (refusal f)
 
 -- rules 3 and 4: how many words the tree takes that a text is read as, or the refusal by one of them
 unfoldable pub tree_or_refusal : Outcome → ℕ ⊎ verdict.Verdict
@@ -48,9 +45,9 @@ tree_or_refusal (bad p) = inr (verdict.parsed (bad p))
 tree_or_refusal (too_deep p) = inr (verdict.parsed (too_deep p))
 
 -- what `open` answers, in that form
-unfoldable pub opened_as : Opened → ℕ ⊎ verdict.Verdict
-opened_as (opened.Tree n) = inl n
-opened_as (opened.Refused f) = inr (refusal f)
+unfoldable pub opened_as : Result ℕ Refusal → ℕ ⊎ verdict.Verdict
+opened_as (Ok n) = inl n
+opened_as (Err f) = inr (refusal f)
 
 -- the table, which was t₀, has the words of the tree; the others are as they were
 pub record TreeIn (x t₀ t : List ℕ) (n : ℕ) : Type 0 where
@@ -58,9 +55,9 @@ pub record TreeIn (x t₀ t : List ℕ) (n : ℕ) : Type 0 where
   pub rest : (k : ℕ) → n ≤ k → get_or t k 0 ≡ get_or t₀ k 0
 
 -- r is the answer for the text x, and what the table holds if that is a tree
-pub record Opens (x t₀ t : List ℕ) (r : Opened) : Type 0 where
+pub record Opens (x t₀ t : List ℕ) (r : Result ℕ Refusal) : Type 0 where
   pub is : opened_as r ≡ tree_or_refusal (read x)
-  pub holds : (n : ℕ) → r ≡ opened.Tree n → TreeIn x t₀ t n
+  pub holds : (n : ℕ) → r ≡ Ok n → TreeIn x t₀ t n
 
 -- the rows have room for what the city objects list in the tree that stands at the node 0:
 -- a word for each object, one more and one for each listed value take a third of the tree's words
@@ -84,12 +81,6 @@ pub record Rows (x t offsets children parents : List ℕ) : Type 0 where
 -- the offsets of an index
 unfoldable pub offsets_of : Index → List ℕ
 offsets_of index = take index.count index.offsets
-
--- the same by an index
-pub record LinkedBy (x t : List ℕ) (index : Index) : Type 0 where
-  pub room : length index.offsets ≡ 1024
-  pub few : index.count ≤ 1024
-  pub linked : Linked x t (offsets_of index)
 
 -- the least fault of the rules 5 to 14 of the tree that stands at the node 0, and the index over the table t of its city objects
 pub record TreeExamined (x t : List ℕ) (w : Walked) : Type 0 where

@@ -1,5 +1,5 @@
 -- What follows from what the parts of judge and lay answered.
-use Rattle.std.specs.Prelude.{ℕ, ◌-◌, ◌*◌, ◌≤◌, ◌<◌, ◌≡◌, refl, Bool, true, false, cond, List, [], length, take, drop, replicate, ltb}
+use Rattle.std.specs.Prelude.{ℕ, ◌+◌, ◌-◌, ◌*◌, ◌≤◌, ◌<◌, ◌≡◌, refl, Bool, true, false, cond, List, [], length, take, drop, replicate, ltb, Result, Ok, Err}
 use Rattle.std.proofs.Common.{arith, ◌∙◌, subst, length-take-le, get_or-take, ltb-true, ltb-false}
 use Rattle.std.proofs.Math.Path.{sym, ap}
 use Rattle.std.proofs.Math.Logic.{inr}
@@ -24,10 +24,6 @@ use Rattle.verdict.proofs.Exact.{verdict-long, verdict-odd, verdict-read, in-tex
 use Rattle.refusals.specs.Refusals.{refusal}
 use Rattle.refusals.specs.Says.{Tabled, Refuses}
 use Rattle.refusals.specs.declared.Refusal.{Refusal}
-use Rattle.examining.specs.declared.Screened.{Screened}
-use Rattle.examining.specs.declared.Screened.TheVariants as screened
-use Rattle.examining.specs.declared.Opened.{Opened}
-use Rattle.examining.specs.declared.Opened.TheVariants as opened
 use Rattle.examining.specs.Examining.{screened_as, tree_or_refusal, opened_as, Room, RowRoom, Stands, Opens, offsets_of, Examined}
 use Rattle.examining.specs.Least.{no-fault, judged-fault, judged-none, few-clean}
 
@@ -48,29 +44,29 @@ left x = by (ltb 65535 (length x)) (ltb (whole_length x) (length x)) refl refl
     by false true p q = verdict-odd x (ltb-false _ _ p) (ltb-true _ _ q)
     by false false p q = (ltb-false _ _ p, verdict-read x (ltb-false _ _ p) (ltb-false _ _ q))
 
-screened-left : (x : List ℕ) {r s : Screened} → screened_as r ≡ screening x → r ≡ s → Left x (screened_as s)
+screened-left : (x : List ℕ) {r s : Result (Unit {0}) Refusal} → screened_as r ≡ screening x → r ≡ s → Left x (screened_as s)
 screened-left x h e = subst (Left x) (sym h ∙ ap screened_as e) (left x)
 
-module _ (x : List ℕ) {r : Screened} (h : screened_as r ≡ screening x) where
-  pub passed-short : r ≡ screened.Passed → length x ≤ 65535
+module _ (x : List ℕ) {r : Result (Unit {0}) Refusal} (h : screened_as r ≡ screening x) where
+  pub passed-short : {u : Unit {0}} → r ≡ Ok u → length x ≤ 65535
   unfolding screened_as
   passed-short e = (screened-left x h e).0
 
-  pub passed-verdict : r ≡ screened.Passed → verdict x ≡ parsed (read x)
+  pub passed-verdict : {u : Unit {0}} → r ≡ Ok u → verdict x ≡ parsed (read x)
   unfolding screened_as
   passed-verdict e = (screened-left x h e).1
 
-  pub screened-refused : {f : Refusal} → r ≡ screened.Refused f → refusal f ≡ verdict x
+  pub screened-refused : {f : Refusal} → r ≡ Err f → refusal f ≡ verdict x
   unfolding screened_as
   screened-refused e = sym (screened-left x h e)
 
 -- ---- rules 3 and 4
 
-module _ (x t₀ t : List ℕ) {r : Opened} (h : Opens x t₀ t r) where
-  pub opened-tree : {n : ℕ} → r ≡ opened.Tree n → Stands x t n
+module _ (x t₀ t : List ℕ) {r : Result ℕ Refusal} (h : Opens x t₀ t r) where
+  pub opened-tree : {n : ℕ} → r ≡ Ok n → Stands x t n
   opened-tree e = (h.holds _ e).tree
 
-  pub opened-refused : {f : Refusal} → r ≡ opened.Refused f → refusal f ≡ parsed (read x)
+  pub opened-refused : {f : Refusal} → r ≡ Err f → refusal f ≡ parsed (read x)
   unfolding opened_as tree_or_refusal parsed
   opened-refused {f} e = by (read x) (sym (ap opened_as e) ∙ h.is)
     where
@@ -122,11 +118,11 @@ lent-offsets index = let z : index.count - 0 ≡ index.count = omega arith in ap
 
 -- ---- work tables that were just made
 
-pub room-long : {x t : List ℕ} → length x ≤ 65535 → t ≡ replicate 98352 0 → Room x t
-room-long h q = record { short = h; long = omega (arith, fresh-length 98352 q) }
+pub room-made : {x t : List ℕ} (m : ℕ) → length x ≤ 65535 → 3 * length x + 99 ≤ 2 * m → t ≡ replicate m 0 → Room x t
+room-made m h k q = record { short = h; long = omega (arith, fresh-length m q) }
 
-pub table-long : {t : List ℕ} → t ≡ replicate 98352 0 → length t ≤ 98352
-table-long q = omega (arith, fresh-length 98352 q)
+pub table-made : {t : List ℕ} (m : ℕ) → t ≡ replicate m 0 → m ≤ 98352 → length t ≤ 98352
+table-made m q h = omega (arith, fresh-length m q)
 
 -- rows for a tree of n words
 pub rows-room : {x t rows : List ℕ} {n : ℕ} (m : ℕ) → Stands x t n → rows ≡ replicate m 0 → n ≤ 3 * m → m ≤ 65535 → RowRoom x t rows

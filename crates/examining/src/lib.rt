@@ -1,82 +1,48 @@
 // Examines a CityJSON text by the rules of docs/RULES.md: what judge and lay have in common.
 #![tactic(auto)]
 
-ghost use Rattle.std.specs.Prelude.{◌≡◌};
-ghost use Rattle.verdict.specs.Verdict.{screening};
+ghost use Rattle.std.specs.Prelude.{◌≡◌, ◌≤◌, ◌<◌};
+ghost use Rattle.json_text.specs.Machine.{read};
+ghost use Rattle.nodes.specs.Faults.{no_fault};
+ghost use Rattle.verdict.specs.Verdict.{parsed, screening};
 ghost use Rattle.links.specs.Says.{LinksGive};
-ghost use Rattle.examining.specs.Examining.{screened_as, Room, Stands, Opens, RowRoom, Linked, Rows, LinkedBy, offsets_of, TreeExamined, Examined, RowsOf};
+ghost use Rattle.refusals.specs.Refusals.{refusal};
+ghost use Rattle.examining.specs.Examining.{screened_as, Room, Stands, Opens, RowRoom, Linked, Rows, offsets_of, TreeExamined, Examined, RowsOf};
 
 use fields::Index;
-use json_text::Parsed;
 use nodes::NO_FAULT;
 use refusals::{Broken, Refusal};
 use schema::Walked;
 
-// Rules 1 and 2 kept, or the refusal.
-#[derive(Drop)]
-pub enum Screened {
-    Passed,
-    Refused(Refusal),
-}
-
-// The number of words of the tree that a text is read as, or the refusal by rule 3 or 4.
-#[derive(Drop)]
-pub enum Opened {
-    Tree(usize),
-    Refused(Refusal),
-}
-
 // Rules 1 and 2.
-pub fn screen(text: &[u8]) -> Screened
+pub fn screen(text: &[u8]) -> Result<(), Refusal>
     ensures { screened_as result ≡ screening text.now }
 {
     if text.len() > 65535 {
-        return Screened::Refused(Refusal {
-            rule: Broken::TooLong,
-            place: 65535,
-            end: 65535,
-        });
+        return Err(Refusal::at(Broken::TooLong, 65535));
     }
     let whole = utf8::whole(text);
     if whole < text.len() {
-        return Screened::Refused(Refusal {
-            rule: Broken::NotUtf8,
-            place: whole,
-            end: whole,
-        });
+        return Err(Refusal::at(Broken::NotUtf8, whole));
     }
-    Screened::Passed
+    Ok(())
 }
 
-// Reads a text that is not too long into the node table, or refuses it by rule 3 or 4.
-pub fn open(text: &[u8], table: &mut [u32]) -> Opened
+// Reads a text that is not too long into the node table: the number of its tree's words, or the refusal by rule 3 or 4.
+pub fn open(text: &[u8], table: &mut [u32]) -> Result<usize, Refusal>
     requires { Room text.now table.old }
     ensures { Opens text.now table.old table.new result }
 {
-    let answer = parser::parse(text, table);
-    match answer {
-        Parsed::Nodes(n) => Opened::Tree(n),
-        Parsed::Bad(p) => Opened::Refused(Refusal {
-            rule: Broken::NotJson,
-            place: p,
-            end: p,
-        }),
-        Parsed::Deep(p) => Opened::Refused(Refusal {
-            rule: Broken::TooDeep,
-            place: p,
-            end: p,
-        }),
-        Parsed::Long => Opened::Refused(Refusal {
-            rule: Broken::TooLong,
-            place: 65535,
-            end: 65535,
-        }),
-        Parsed::Short => Opened::Refused(Refusal {
-            rule: Broken::TooLong,
-            place: 65535,
-            end: 65535,
-        }),
-    }
+    Ok(parser::parse(text, table)?)
+}
+
+// The offsets of the city objects that an index has.
+#[tactic(auto, unfolding(crate::specs::Examining::offsets_of))]
+pub fn offsets(index: &Index) -> &[usize]
+    requires { index.now.count ≤ 1024 }
+    ensures { result.now ≡ offsets_of index.now }
+{
+    &index.offsets[..index.count]
 }
 
 // Rules 15 to 17 of a text of which the offsets of the city objects are given; the rows of what these list are filled for it.
@@ -97,25 +63,6 @@ fn examine_links(
     links::links(text, table, offsets, children, parents, best)
 }
 
-// Rules 15 to 17 of a text in which the rules 5 to 14 find no fault, with the index of its city objects.
-fn examine_index(
-    text: &[u8],
-    table: &[u32],
-    index: Index,
-    children: &mut [u16],
-    parents: &mut [u16],
-    best: u32,
-) -> u32
-    requires { (LinkedBy text.now table.now index) × (RowRoom text.now table.now children.old) × (RowRoom text.now table.now parents.old) }
-    ensures links_give { LinksGive text.now table.now best result }
-    ensures rows { Rows text.now table.now (offsets_of index) children.new parents.new }
-{
-    let offsets = index.offsets;
-    let count = index.count;
-    let all: &[usize] = &offsets;
-    examine_links(text, table, &all[0..count], children, parents, best)
-}
-
 // The least fault of the rules 5 to 14 of a text, whose tree's words are the first n of the table, and the index of its city objects.
 fn examine_tree(text: &[u8], table: &[u32], n: usize) -> Walked
     requires { Stands text.now table.now n }
@@ -127,7 +74,8 @@ fn examine_tree(text: &[u8], table: &[u32], n: usize) -> Walked
 }
 
 // The least fault of the rules 5 to 17 of such a text, and the index of its city objects. Every fault is below NO_FAULT.
-// If there is none, the rows have what the city objects list.
+// If there is none, the rows have what the city objects list. That there is none stays a number: `Examined` promises the `least`
+// of nodes' definition `fault`, and the index of a text with a fault too.
 pub fn examine(
     text: &[u8],
     table: &[u32],
@@ -140,14 +88,21 @@ pub fn examine(
     ensures rows_of { RowsOf text.now table.now result children.new parents.new }
 {
     let walked = examine_tree(text, table, n);
-    let c = walked.least;
-    if c < NO_FAULT {
+    if walked.least < NO_FAULT {
         return walked;
     }
-    let index = walked.index;
-    let d = examine_index(text, table, index, children, parents, c);
+    let listed = offsets(&walked.index);
+    let least = examine_links(text, table, listed, children, parents, walked.least);
     Walked {
-        least: d,
-        index: index,
+        index: walked.index,
+        least,
     }
+}
+
+// The refusal of a text by the least fault of its tree.
+pub fn refuse(text: &[u8], table: &[u32], n: usize, walked: &Walked) -> Refusal
+    requires { (Stands text.now table.now n) × (Examined text.now table.now walked.now) × (walked.now.least < no_fault) }
+    ensures { refusal result ≡ parsed (read text.now) }
+{
+    refusals::refuse_fault(table, n, walked.least)
 }

@@ -11,18 +11,24 @@ use Rattle.strings.specs.Spans.{decode_at}
 use Rattle.words.specs.Words.{code_of, object_words, geometry_words}
 use Rattle.nodes.specs.Access.{is_string_value, text_of, elements}
 use Rattle.nodes.specs.Says.{Gives, GivesFound}
-use Rattle.nodes.specs.declared.Found.{Found}
-use Rattle.nodes.specs.declared.Found.TheVariants.{At, Nothing}
+use Rattle.nodes.specs.Says.{Found}
+use Rattle.std.specs.Prelude.{Some, None}
+use Rattle.std.specs.Prelude as code
+use mathlib.Core.Option as option
+use mathlib.Core.Path.{sym, ap, ◌∙◌}
+use Rattle.strings.specs.Spans.{Span}
+use Rattle.nodes.specs.Says.{Finds, Sought}
+use Rattle.fields.specs.Says.{GivesSpan, Spells}
 use Rattle.fields.specs.Fields.{text_in, count_in}
 use Rattle.fields.specs.Says.{StringNode}
 use Rattle.fields.specs.Laws.{at-node, of_none, of_some, string-node, string-first, string-second, string-span, string-text, other_text}
 
 -- an empty text is no word
-object-none : 0 ≡ code_of object_words []
+pub object-none : 0 ≡ code_of object_words []
 unfolding code_of object_words
 object-none = refl
 
-geometry-none : 0 ≡ code_of geometry_words []
+pub geometry-none : 0 ≡ code_of geometry_words []
 unfolding code_of geometry_words
 geometry-none = refl
 
@@ -32,47 +38,44 @@ word_none [] h = absurd (omega arith)
 word_none (a ∷ w) h = refl
 
 module _ {x t : List ℕ} {found : Found} where
-  pub count-nothing : found ≡ Nothing → GivesFound count_in x t found 0
+  pub count-nothing : found ≡ None → GivesFound count_in x t found 0
   unfolding count_in
   count-nothing e = of_none count_in e refl
 
-  pub count_at : {k r : ℕ} → found ≡ At k → Gives (λ v. length (elements v)) x t k r → GivesFound count_in x t found r
+  pub count_at : {k r : ℕ} → found ≡ Some k → Gives (λ v. length (elements v)) x t k r → GivesFound count_in x t found r
   unfolding count_in
   count_at e g = of_some count_in e g
 
-  pub word-nothing : (w : List ℕ) → 0 < length w → found ≡ Nothing → GivesFound (λ o. same w (text_in o)) x t found false
+  pub word-nothing : (w : List ℕ) → 0 < length w → found ≡ None → GivesFound (λ o. same w (text_in o)) x t found false
   unfolding text_in
   word-nothing w h e = of_none (λ o. same w (text_in o)) e (word_none w h)
 
-  pub word_at : (w : List ℕ) {k : ℕ} {r : Bool} → found ≡ At k → Gives (λ v. same w (text_of v)) x t k r → GivesFound (λ o. same w (text_in o)) x t found r
+  pub word_at : (w : List ℕ) {k : ℕ} {r : Bool} → found ≡ Some k → Gives (λ v. same w (text_of v)) x t k r → GivesFound (λ o. same w (text_in o)) x t found r
   unfolding text_in
   word_at w e g = of_some (λ o. same w (text_in o)) e g
 
-  pub object-nothing : found ≡ Nothing → GivesFound (λ o. code_of object_words (text_in o)) x t found 0
+  -- where the text of what was found stands
+  pub span-nothing : found ≡ None → GivesSpan x t found None
+  unfolding Finds text_in
+  span-nothing e = record { is = λ o h. let z : o ≡ option.none = rw e at h in ap text_in z }
+
+  pub span-other : {k : ℕ} {b : Bool} → found ≡ Some k → Gives is_string_value x t k b → b ≡ false → GivesSpan x t found None
   unfolding text_in
-  object-nothing e = of_none (λ o. code_of object_words (text_in o)) e object-none
+  span-other e g h = record { is = λ o z. sym ((of_some text_in e (other_text (λ w. w) g (ap not h) refl)).is o z) }
 
-  pub geometry-nothing : found ≡ Nothing → GivesFound (λ o. code_of geometry_words (text_in o)) x t found 0
+  pub span-is : {k p f : ℕ} → found ≡ Some k → StringNode x t k → p ≡ get_or t k 0 + 1 → f ≡ get_or t (k + 1) 0 - 1 → GivesSpan x t found (Some (p, f))
   unfolding text_in
-  geometry-nothing e = of_none (λ o. code_of geometry_words (text_in o)) e geometry-none
+  span-is e d q u = record { is = λ o z. (string-span d q u, sym ((of_some text_in e (string-text d (λ w. w) q u refl)).is o z)) }
 
-  module _ {k : ℕ} {b : Bool} (e : found ≡ At k) (g : Gives is_string_value x t k b) where
-    pub object-other : not b ≡ true → GivesFound (λ o. code_of object_words (text_in o)) x t found 0
-    unfolding text_in
-    object-other h = of_some (λ o. code_of object_words (text_in o)) e (other_text (code_of object_words) g h object-none)
+  module _ {A : Type 0} {q : A} (f : List ℕ → A) {r : code.Option (ℕ × ℕ)} (g : GivesSpan x t found r) where
+    pub spelled : {s : ℕ × ℕ} → r ≡ Some s → q ≡ f (decode_at x s.0 s.1) → GivesFound (λ o. f (text_in o)) x t found q
+    spelled {s} e h = record { is = λ o z. let w : Spells x (text_in o) (Some s) = rw e at (g.is o z) in h ∙ ap f (sym w.1) }
 
-    pub geometry-other : not b ≡ true → GivesFound (λ o. code_of geometry_words (text_in o)) x t found 0
-    unfolding text_in
-    geometry-other h = of_some (λ o. code_of geometry_words (text_in o)) e (other_text (code_of geometry_words) g h geometry-none)
+    pub unspelled : r ≡ None → q ≡ f [] → GivesFound (λ o. f (text_in o)) x t found q
+    unspelled e h = record { is = λ o z. let w : Spells x (text_in o) None = rw e at (g.is o z) in h ∙ ap f (sym w) }
 
-  module _ {k p f r : ℕ} (e : found ≡ At k) (d : StringNode x t k) (q : p ≡ get_or t k 0 + 1) (u : f ≡ get_or t (k + 1) 0 - 1) where
-    pub object-string : r ≡ code_of object_words (decode_at x p f) → GivesFound (λ o. code_of object_words (text_in o)) x t found r
-    unfolding text_in
-    object-string s = of_some (λ o. code_of object_words (text_in o)) e (string-text d (code_of object_words) q u s)
-
-    pub geometry-string : r ≡ code_of geometry_words (decode_at x p f) → GivesFound (λ o. code_of geometry_words (text_in o)) x t found r
-    unfolding text_in
-    geometry-string s = of_some (λ o. code_of geometry_words (text_in o)) e (string-text d (code_of geometry_words) q u s)
+  pub spelled-span : {r : code.Option (ℕ × ℕ)} {s : ℕ × ℕ} → Sought x t found → GivesSpan x t found r → r ≡ Some s → Span x s.0 s.1
+  spelled-span {s = s} d g e = let w : Spells x (text_in d.answer) (Some s) = rw e at (g.is d.answer d.finds) in w.0
 
 module _ {x t : List ℕ} {i : ℕ} (w : List ℕ) where
   pub is-other : {b : Bool} → Gives is_string_value x t i b → 0 < length w → not b ≡ true → Gives (λ v. same w (text_of v)) x t i false
@@ -92,12 +95,10 @@ pub ruleset fields = (
   count_at,
   word-nothing,
   word_at,
-  object-nothing,
-  object-other,
-  object-string,
-  geometry-nothing,
-  geometry-other,
-  geometry-string,
+  span-nothing,
+  span-other,
+  span-is,
+  spelled-span,
   is-other,
   is-text,
 )

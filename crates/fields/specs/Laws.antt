@@ -12,20 +12,20 @@ use Rattle.nodes.specs.Access.{is_string_value, text_of}
 use Rattle.nodes.specs.Says.{Node, Sought, Seeks, Finds, Gives, GivesFound}
 use Rattle.nodes.specs.Reads.{node-room, node-onward}
 use Rattle.nodes.specs.Laws.{StringAt, raw_of, string-at, text-at}
-use Rattle.nodes.specs.declared.Found.{Found}
-use Rattle.nodes.specs.declared.Found.TheVariants.{At, Nothing}
+use Rattle.nodes.specs.Says.{Found}
+use Rattle.std.specs.Prelude.{Some, None}
 use Rattle.fields.specs.Says.{StringNode}
 
 module _ {x t : List ℕ} {found : Found} where
   -- what was found at a node stands there
-  pub at-node : {k : ℕ} → Sought x t found → found ≡ At k → Node x t k
+  pub at-node : {k : ℕ} → Sought x t found → found ≡ Some k → Node x t k
   unfolding Finds
-  at-node s e = let (v, p, q) : Finds x t s.answer (At _) = subst (Finds x t s.answer) e s.finds in record { value = v; stands = q; short = s.short }
+  at-node s e = let (v, p, q) : Finds x t s.answer (Some _) = subst (Finds x t s.answer) e s.finds in record { value = v; stands = q; short = s.short }
 
-  pub at_room : {k : ℕ} → Sought x t found → found ≡ At k → k + 2 < length t
+  pub at_room : {k : ℕ} → Sought x t found → found ≡ Some k → k + 2 < length t
   at_room s e = node-room (at-node s e)
 
-  pub at_onward : {k : ℕ} → Sought x t found → found ≡ At k → length t * 4 < 2 ^ 63 → Fits w64 (k + 3)
+  pub at_onward : {k : ℕ} → Sought x t found → found ≡ Some k → length t * 4 < 2 ^ 63 → Fits w64 (k + 3)
   at_onward s e h = node-onward (at-node s e) h
 
   -- what a search in a value found is sought
@@ -33,14 +33,14 @@ module _ {x t : List ℕ} {found : Found} where
   sought-in {f = f} s d = record { answer = f d.value; finds = s.finds d.value d.stands; short = d.short }
 
   -- an answer for nothing
-  pub of_none : {A : Type 0} {r : A} (f : Option Json → A) → found ≡ Nothing → r ≡ f none → GivesFound f x t found r
+  pub of_none : {A : Type 0} {r : A} (f : Option Json → A) → found ≡ None → r ≡ f none → GivesFound f x t found r
   unfolding Finds
   of_none f e q = record { is = λ o h. let z : o ≡ none = subst (Finds x t o) e h in q ∙ ap f (sym z) }
 
   -- an answer for the value at a node
-  pub of_some : {A : Type 0} {r : A} {k : ℕ} (f : Option Json → A) → found ≡ At k → Gives (λ v. f (some v)) x t k r → GivesFound f x t found r
+  pub of_some : {A : Type 0} {r : A} {k : ℕ} (f : Option Json → A) → found ≡ Some k → Gives (λ v. f (some v)) x t k r → GivesFound f x t found r
   unfolding Finds
-  of_some f e g = record { is = λ o h. let (v, p, q) : Finds x t o (At _) = subst (Finds x t o) e h in g.is v q ∙ ap f (sym p) }
+  of_some f e g = record { is = λ o h. let (v, p, q) : Finds x t o (Some _) = subst (Finds x t o) e h in g.is v q ∙ ap f (sym p) }
 
 -- a string at a node, where the test said so
 pub string-node : {x t : List ℕ} {i : ℕ} {b : Bool} → Node x t i → Gives is_string_value x t i b → not b ≡ false → StringNode x t i

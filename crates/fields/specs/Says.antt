@@ -1,5 +1,7 @@
 -- What the functions over what was found ask and tell.
-use Rattle.std.specs.Prelude.{◌≡◌, true, List, ℕ, ◌+◌, ◌<◌, ◌≤◌, min, length, get_or}
+use Rattle.std.specs.Prelude.{◌≡◌, true, List, [], ℕ, ◌+◌, ◌<◌, ◌≤◌, min, length, get_or, Some, None}
+use Rattle.std.specs.Prelude as code
+use Rattle.strings.specs.Spans.{Span, decode_at}
 use Rattle.std.proofs.Math.Option.{Option}
 use Prim.Native.String.{String}
 use Rattle.words.specs.Words.{code_of}
@@ -7,7 +9,7 @@ use Rattle.json_text.specs.Tree.{Json}
 use Rattle.json_text.specs.Table.{Quoted, Sub}
 use Rattle.nodes.specs.Access.{is_string_value, Member}
 use Rattle.nodes.specs.Says.{Node, Finds, Sought}
-use Rattle.nodes.specs.declared.Found.{Found}
+use Rattle.nodes.specs.Says.{Found}
 use Rattle.fields.specs.Fields.{text_in}
 use Rattle.fields.specs.declared.Index.{Index}
 
@@ -15,6 +17,15 @@ use Rattle.fields.specs.declared.Index.{Index}
 pub record StringNode (x t : List ℕ) (i : ℕ) : Type 0 where
   pub node : Node x t i
   pub is : (v : Json) → Sub x t i v → is_string_value v ≡ true
+
+-- the bytes w are those that stand between the offsets, decoded, or there are none
+abbrev pub Spells : List ℕ → List ℕ → code.Option (ℕ × ℕ) → Type 0
+Spells x w (Some s) = Span x s.0 s.1 × (w ≡ decode_at x s.0 s.1)
+Spells x w None = w ≡ []
+
+-- r tells where the text of the string that was found stands
+pub record GivesSpan (x t : List ℕ) (found : Found) (r : code.Option (ℕ × ℕ)) : Type 0 where
+  pub is : (o : Option Json) → Finds x t o found → Spells x (text_in o) r
 
 -- the code is that of the word that was found
 pub record CodeOf (words : List String) (x t : List ℕ) (found : Found) (code : ℕ) : Type 0 where

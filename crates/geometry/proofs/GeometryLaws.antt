@@ -21,16 +21,17 @@ use Rattle.nodes.specs.Access.{is_string_value, is_array_value, text_of, listed,
 use Rattle.nodes.specs.Faults.{fault, least, no_fault}
 use Rattle.nodes.specs.Says.{Node, Sought, Finds, Gives, GivesFound}
 use Rattle.nodes.specs.Laws.{least-++, least-min, least-comm, least-le, place_at, place-below}
-use Rattle.nodes.specs.declared.Found.{Found}
-use Rattle.nodes.specs.declared.Found.TheVariants.{At, Nothing}
+use Rattle.nodes.specs.Says.{Found}
+use Rattle.std.specs.Prelude.{Some, None}
 use Rattle.fields.specs.Fields.{text_in, type_text}
-use Rattle.fields.specs.Laws.{at-node, of_none, of_some}
+use Rattle.fields.specs.Laws.{at-node}
 use Rattle.shapes.specs.Checks.{Check, unless, all, on, for_each, string_kind, array_kind, needs, text, is_empty}
 use Rattle.shapes.specs.Shapes.{shaped, ranged, matches, is_integer_value}
 use Rattle.shapes.specs.Says.{Needs}
 use Rattle.boundaries.specs.Says.{GivesTwo}
 use Rattle.rules.specs.Schema.{is_geometry_type, is_surface_type, geometry_type, boundary, boundaries, over_boundary, needs_lod}
-use Rattle.geometry.specs.Says.{Checked, CheckedOver, MemberFound, CodeAt, SoundAt, Outlined, Overlaid}
+use Rattle.geometry.specs.declared.Outline.{Outline}
+use Rattle.geometry.specs.Says.{Checked, CheckedOver, MemberFound, CodeAt, SoundAt, Outlined, OwnFault, least_with, Overlaid}
 use Rattle.geometry.proofs.Lines.{lines}
 
 step : {r : ℕ} (b m : ℕ) (p q : List ℕ) → m ≡ least b p → r ≡ least m q → r ≡ least b (p ++ q)
@@ -61,9 +62,9 @@ has_code words w {code} e h = one-has-code words w ∙ ap not (ap (λ (n : ℕ).
 no_code : (words : List String) (w : List ℕ) {code : ℕ} → code ≡ code_of words w → code ≡ 0 → is_one words w ≡ false
 no_code words w e h = one-has-code words w ∙ ap (λ (n : ℕ). not (eqb n 0)) (sym e ∙ h)
 
-pub surface-coded : (w : List ℕ) {code : ℕ} → code ≡ code_of surface_words w → (code ≡ 0 → ⊥) → true ≡ is_surface_type w
+pub surface-coded : (w : List ℕ) {code : ℕ} → code ≡ code_of surface_words w → (code ≡ 0 → ⊥) → not (eqb code 0) ≡ is_surface_type w
 unfolding is_surface_type
-surface-coded w e h = rw (has_code surface_words w e h)
+surface-coded w {code} e h = rw (has_code surface_words w e h, ne_eqb code 0 h)
 
 pub surface-added : (w : List ℕ) {code : ℕ} {b : Bool} → code ≡ code_of surface_words w → code ≡ 0 → b ≡ is_added_name w → b ≡ is_surface_type w
 unfolding is_surface_type
@@ -160,21 +161,11 @@ module _ {x t : List ℕ} {k best : ℕ} (vertices : ℕ) {code m : ℕ} (a : Gi
             ∙ ap (least best) (bound-lists vertices code v false (ne_eqb code 0 h));
       }
 
--- a boundary that was sought
-module _ {x t : List ℕ} {found : Found} {best : ℕ} (vertices code : ℕ) where
-  pub boundary-nothing : found ≡ Nothing → GivesFound (λ o. least best (on (boundaries vertices code) o)) x t found best
-  unfolding on least
-  boundary-nothing e = of_none (λ o. least best (on (boundaries vertices code) o)) e refl
-
-  pub boundary-found : {k r : ℕ} → found ≡ At k → Checked (boundaries vertices code) x t k best r → GivesFound (λ o. least best (on (boundaries vertices code) o)) x t found r
-  unfolding on
-  boundary-found e g = of_some (λ o. least best (on (boundaries vertices code) o)) e (record { is = λ v s. g.is v s })
-
 -- every fault of a list is below `no_fault`: if that is the least of it and them, there are none
-abbrev None : List ℕ → Type 0
-None fs = least no_fault fs ≡ no_fault → fs ≡ []
+abbrev NoFaults : List ℕ → Type 0
+NoFaults fs = least no_fault fs ≡ no_fault → fs ≡ []
 
-none-++ : (p q : List ℕ) → None p → None q → None (p ++ q)
+none-++ : (p q : List ℕ) → NoFaults p → NoFaults q → NoFaults (p ++ q)
 unfolding least
 none-++ p q f g e =
     let h : least (least no_fault p) q ≡ no_fault = sym (least-++ no_fault p q) ∙ e in
@@ -183,17 +174,17 @@ none-++ p q f g e =
     rw (f z, u)
 
 module _ {x t : List ℕ} (short : length x ≤ 65535) where
-  none-unless : {i : ℕ} {v : Json} (b : Bool) → Sub x t i v → None (unless b 12 v)
+  none-unless : {i : ℕ} {v : Json} (b : Bool) → Sub x t i v → NoFaults (unless b 12 v)
   unfolding least unless fault
   none-unless true s e = refl
   none-unless false s e = absurd (omega (arith, place_at s, place-below s short))
 
-  none-subs : (c : Check) → ((i : ℕ) (v : Json) → Sub x t i v → None (c v)) → {i : ℕ} {vs : Items} → Subs x t i vs → None (for_each c (listed vs))
+  none-subs : (c : Check) → ((i : ℕ) (v : Json) → Sub x t i v → NoFaults (c v)) → {i : ℕ} {vs : Items} → Subs x t i vs → NoFaults (for_each c (listed vs))
   unfolding listed for_each
   none-subs c f nil = λ e. refl
   none-subs c f (cons {v = v} {vs = vs} s ss) = none-++ (c v) (for_each c (listed vs)) (f _ v s) (none-subs c f ss)
 
-  none-elements : (c : Check) → ((i : ℕ) (v : Json) → Sub x t i v → None (c v)) → {i : ℕ} {v : Json} → Sub x t i v → None (for_each c (elements v))
+  none-elements : (c : Check) → ((i : ℕ) (v : Json) → Sub x t i v → NoFaults (c v)) → {i : ℕ} {v : Json} → Sub x t i v → NoFaults (for_each c (elements v))
   unfolding elements for_each
   none-elements c f (null w) = λ e. refl
   none-elements c f (bool w) = λ e. refl
@@ -202,7 +193,7 @@ module _ {x t : List ℕ} (short : length x ≤ 65535) where
   none-elements c f (arr w ss) = none-subs c f ss
   none-elements c f (obj w ms) = λ e. refl
 
-  none-shaped : (d : ℕ) {i : ℕ} {v : Json} → Sub x t i v → None (shaped d v)
+  none-shaped : (d : ℕ) {i : ℕ} {v : Json} → Sub x t i v → NoFaults (shaped d v)
   unfolding shaped
   none-shaped zero {v = v} s = none-unless (is_integer_value v) s
   none-shaped (suc d) {v = v} s =
@@ -217,7 +208,7 @@ unfolding is_empty least
 nil-no [] h = absurd (h refl)
 nil-no (f ∷ fs) h = refl
 
-nil-test : {l : ℕ} (fs : List ℕ) → None fs → l ≡ least no_fault fs → eqb l no_fault ≡ is_empty fs
+nil-test : {l : ℕ} (fs : List ℕ) → NoFaults fs → l ≡ least no_fault fs → eqb l no_fault ≡ is_empty fs
 nil-test {l} fs n e = go (eqb l no_fault) refl
   where
     go : (b : Bool) → eqb l no_fault ≡ b → b ≡ is_empty fs
@@ -243,29 +234,48 @@ least-cap f b fs h =
     let e : least f fs ≡ min (least b fs) f = ap (λ (n : ℕ). least n fs) (sym z) ∙ q in
     omega arith
 
-module _ {x t : List ℕ} {found : Found} where
-  -- the least of the best so far and the boundary's own fault
-  pub own-best : (c : Check) {f own g : ℕ} → f ≤ 4294967295 → GivesFound (λ o. least 4294967295 (on c o)) x t found own → g ≡ min f own → GivesFound (λ o. least f (on c o)) x t found g
-  own-best c {f} l k e = record { is = λ o s. e ∙ ap (min f) (k.is o s) ∙ least-cap f 4294967295 (on c o) l }
+-- the least fault of a boundary that was sought
+module _ {x t : List ℕ} {found : Found} (vertices code : ℕ) (d : Sought x t found) where
+  pub own-nothing : found ≡ None → OwnFault vertices code x t found None
+  unfolding least_with on least Finds
+  own-nothing e = record {
+    is = λ o best f l. let z : o ≡ option.none = subst (Finds x t o) e f in rw z;
+    sound = record { sought = d; is = λ h i y. absurd cc };
+  }
 
-  pub own-sound : (vertices : ℕ) {code own : ℕ} → Sought x t found → GivesFound (λ o. least 4294967295 (on (boundaries vertices code) o)) x t found own
-      → Outlined x t found code (eqb own 4294967295)
-  unfolding on Finds
-  own-sound vertices {code} {own} d k = record { sought = d; at = λ h i e. record { none = λ z v s. told h i e (eqb-true own 4294967295 z) v s } }
-    where
-      told : (code ≡ 0 → ⊥) → (i : ℕ) → found ≡ At i → own ≡ 4294967295 → (v : Json) → Sub x t i v → shaped (depth code) v ≡ []
-      told h i e z v s =
-          let fs : List ℕ = array_kind v ++ (shaped (depth code) v ++ ranged vertices (depth code) v) in
-          let g : own ≡ least 4294967295 (boundaries vertices code v) = k.is (some v) (subst (Finds x t (some v)) (sym e) (v, refl, s)) in
-          let q : least 4294967295 fs ≡ 4294967295 = ap (least 4294967295) (bound-lists vertices code v false (ne_eqb code 0 h)) ∙ sym g ∙ z in
-          let c : least no_fault fs ≡ no_fault = sym (least-cap no_fault 4294967295 fs (omega arith)) ∙ ap (min no_fault) q in
-          none-shaped d.short (depth code) s (middle (array_kind v) (shaped (depth code) v) (ranged vertices (depth code) v) c)
+  module _ {k l : ℕ} (e : found ≡ Some k) (g : Checked (boundaries vertices code) x t k 4294967295 l) where
+    own-least : (o : option.Option Json) (best : ℕ) → Finds x t o found → best ≤ 4294967295 → min best l ≡ least best (on (boundaries vertices code) o)
+    unfolding on Finds
+    own-least o best f h =
+        let (v, p, s) : Finds x t o (Some k) = subst (Finds x t o) e f in
+        ap (min best) (g.is v s) ∙ (least-cap best 4294967295 (boundaries vertices code v) h ∙ ap (λ o. least best (on (boundaries vertices code) o)) (sym p))
+
+    pub own-none : l ≡ 4294967295 → OwnFault vertices code x t found None
+    unfolding least_with on Finds
+    own-none z = record {
+      is = λ o best f h. let q : min best l ≡ best = omega (arith, z, h) in sym q ∙ own-least o best f h;
+      sound = record { sought = d; is = λ h i y. record { none = λ w v s. told h v s (subst (Finds x t (some v)) (sym y) (v, refl, s)) } };
+    }
+      where
+        told : (code ≡ 0 → ⊥) → {i : ℕ} (v : Json) → Sub x t i v → Finds x t (some v) found → shaped (depth code) v ≡ []
+        told h v s f =
+            let fs : List ℕ = array_kind v ++ (shaped (depth code) v ++ ranged vertices (depth code) v) in
+            let m : min 4294967295 l ≡ 4294967295 = omega (arith, z) in
+            let q : least 4294967295 fs ≡ 4294967295 =
+            ap (least 4294967295) (bound-lists vertices code v false (ne_eqb code 0 h)) ∙ (sym (own-least (some v) 4294967295 f (omega arith)) ∙ m) in
+            let c : least no_fault fs ≡ no_fault = sym (least-cap no_fault 4294967295 fs (omega arith)) ∙ ap (min no_fault) q in
+            none-shaped d.short (depth code) s (middle (array_kind v) (shaped (depth code) v) (ranged vertices (depth code) v) c)
+
+    pub own-some : OwnFault vertices code x t found (Some l)
+    unfolding least_with
+    own-some = record { is = own-least; sound = record { sought = d; is = λ h i y. record { none = λ w. absurd cc } } }
 
 module _ {x t : List ℕ} {i : ℕ} where
-  pub shape-known : {code : ℕ} {b : Bool} → SoundAt x t i code b → b ≡ true → Gives (λ v. is_empty (shaped (depth code) v)) x t i true
-  shape-known {code} k e = record { is = λ v s. sym (nil-yes (shaped (depth code) v) (k.none e v s)) }
+  pub shape-known : {code : ℕ} {b : Bool} → SoundAt x t i code b → b ≡ true → Gives (λ v. is_empty (shaped (depth code) v)) x t i b
+  shape-known {code} k e = record { is = λ v s. e ∙ sym (nil-yes (shaped (depth code) v) (k.none e v s)) }
 
-  pub shape-told : (code : ℕ) {d l : ℕ} → Node x t i → d ≡ depth code → Gives (λ v. least no_fault (shaped d v)) x t i l → Gives (λ v. is_empty (shaped (depth code) v)) x t i (eqb l no_fault)
+  pub shape-told : (code : ℕ) {d l : ℕ} → Node x t i → d ≡ depth code → Gives (λ v. least no_fault (shaped d v)) x t i l
+      → Gives (λ v. is_empty (shaped (depth code) v)) x t i (eqb l no_fault)
   shape-told code n e g =
       record { is = λ v s. nil-test (shaped (depth code) v) (none-shaped n.short (depth code) s) (g.is v s ∙ ap (λ (d : ℕ). least no_fault (shaped d v)) e) }
 
@@ -281,39 +291,39 @@ module _ {x t : List ℕ} {b k code p m : ℕ} {l : Bool} (best count : ℕ) (d 
   in-range : (v : Json) → Sub x t k v → m ≡ least best (ranged count (values_depth code) v)
   in-range v z = n.is v z ∙ ap (λ (d : ℕ). least best (ranged count d v)) i
 
-  pub over-unshaped : not l ≡ true → GivesTwo (λ w v. least best (over_boundary count code (some w) v)) x t b k m
-  over-unshaped u = record { is = λ w v y z. in-range v z ∙ ap (least best) (over-lists count code w v false d (sym (s.is w y) ∙ not-true l u)) }
+  pub over-unshaped : l ≡ false → GivesTwo (λ w v. least best (over_boundary count code (some w) v)) x t b k m
+  over-unshaped u = record { is = λ w v y z. in-range v z ∙ ap (least best) (over-lists count code w v false d (sym (s.is w y) ∙ u)) }
 
-  pub over-shaped : {r : ℕ} → not l ≡ false → GivesTwo (λ w u. least m (matches p w u)) x t b k r → GivesTwo (λ w v. least best (over_boundary count code (some w) v)) x t b k r
+  pub over-shaped : {r : ℕ} → l ≡ true → GivesTwo (λ w u. least m (matches p w u)) x t b k r → GivesTwo (λ w v. least best (over_boundary count code (some w) v)) x t b k r
   over-shaped u f =
       record {
         is = λ w v y z.
             let range = ranged count (values_depth code) v in
             let match = matches (values_depth code) w v in
             step best m range match (in-range v z) (f.is w v y z ∙ ap (λ (d : ℕ). least m (matches d w v)) i)
-            ∙ (least-comm best range match ∙ ap (least best) (over-lists count code w v true d (sym (s.is w y) ∙ not-false l u)));
+            ∙ (least-comm best range match ∙ ap (least best) (over-lists count code w v true d (sym (s.is w y) ∙ u)));
       }
 
 module _ {x t : List ℕ} {k best : ℕ} {found : Found} (count code : ℕ) where
   -- no boundary, or a type without a code
-  pub over_nothing : found ≡ Nothing → CheckedOver (over_boundary count code) x t found k best best
+  pub over_nothing : found ≡ None → CheckedOver (over_boundary count code) x t found k best best
   unfolding over_boundary Finds least
   over_nothing e = record { is = λ o f. record { is = λ v s. let z : o ≡ option.none = subst (Finds x t o) e f in rw z } }
 
-  pub over-found : {b r : ℕ} → found ≡ At b → GivesTwo (λ w v. least best (over_boundary count code (some w) v)) x t b k r → CheckedOver (over_boundary count code) x t found k best r
+  pub over-found : {b r : ℕ} → found ≡ Some b → GivesTwo (λ w v. least best (over_boundary count code (some w) v)) x t b k r → CheckedOver (over_boundary count code) x t found k best r
   unfolding Finds
   over-found {b} e h =
       record {
         is = λ o f.
-            record { is = λ v s. let (w, q, z) : Finds x t o (At b) = subst (Finds x t o) e f in h.is w v z s ∙ ap (λ o. least best (over_boundary count code o v)) (sym q) };
+            record { is = λ v s. let (w, q, z) : Finds x t o (Some b) = subst (Finds x t o) e f in h.is w v z s ∙ ap (λ o. least best (over_boundary count code o v)) (sym q) };
       }
 
-  pub over-uncoded : {b : ℕ} → found ≡ At b → code ≡ 0 → CheckedOver (over_boundary count code) x t found k best best
+  pub over-uncoded : {b : ℕ} → found ≡ Some b → code ≡ 0 → CheckedOver (over_boundary count code) x t found k best best
   unfolding over_boundary least
   over-uncoded e h = over-found e (record { is = λ w v z s. rw h })
 
-pub overlaid : {x t : List ℕ} {b v code : ℕ} {sound : Bool} {found : Found} → Node x t v → Outlined x t found code sound → found ≡ At b → (code ≡ 0 → ⊥) → Overlaid x t b v code sound
-overlaid d o e h = record { nodes = record { one = at-node o.sought e; two = d }; coded = h; known = o.at h _ e }
+pub overlaid : {x t : List ℕ} {b v : ℕ} {o : Outline} → Node x t v → Outlined x t o → o.at ≡ Some b → (o.code ≡ 0 → ⊥) → Overlaid x t b v o
+overlaid d o e h = record { nodes = record { one = at-node o.sought e; two = d }; coded = h; known = o.is h _ e }
 
 -- ---- `lod`
 
@@ -333,20 +343,3 @@ module _ {x t : List ℕ} {i : ℕ} {kind : Found} {b : Bool} (best : ℕ) (k : 
 
 -- what `search` is handed to close what the functions leave
 pub ruleset geometric = (lines, geometry-other, geometry-coded, geometry-instance, geometry-unknown, lod-spared, lod-needed)
-
-pub ruleset outlines = (
-  lines,
-  boundary-none,
-  boundary-is,
-  boundary-nothing,
-  boundary-found,
-  own-sound,
-  shape-known,
-  shape-told,
-  over-unshaped,
-  over-shaped,
-  over_nothing,
-  over-found,
-  over-uncoded,
-  overlaid,
-)

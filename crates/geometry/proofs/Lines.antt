@@ -1,5 +1,5 @@
 -- Checks one after the other at one value, and checks of members.
-use Prim.Native.Nat.{ℕ}
+use Prim.Native.Nat.{ℕ, min}
 use Prim.Native.String.{String}
 use mathlib.Core.Path.{◌≡◌, refl, sym, ap, ◌∙◌, subst}
 use mathlib.Core.Bool.{not, ◌||◌}
@@ -12,13 +12,13 @@ use Rattle.nodes.specs.Access.{is_object_value, members, first_named, find}
 use Rattle.nodes.specs.Faults.{least}
 use Rattle.nodes.specs.Laws.{least-++}
 use Rattle.nodes.specs.Says.{Node, Sought, Seeks, Finds, Gives, GivesFound}
-use Rattle.nodes.specs.declared.Found.{Found}
-use Rattle.nodes.specs.declared.Found.TheVariants.{At, Nothing}
+use Rattle.nodes.specs.Says.{Found}
+use Rattle.std.specs.Prelude.{Some, None, MatchOption}
 use Rattle.fields.specs.Laws.{at-node, sought-in}
 use Rattle.shapes.specs.Checks.{Check, unless, all, on, at, object_kind, array_kind, is_some, needs}
 use Rattle.shapes.specs.Says.{Needs}
 use Rattle.shapes.specs.Laws.{checking, least-mix}
-use Rattle.geometry.specs.Says.{Checked, optional, required, MemberFound}
+use Rattle.geometry.specs.Says.{Checked, CheckedOver, optional, required, MemberFound, least_with}
 
 -- ---- checks in a line
 
@@ -60,25 +60,39 @@ module _ {x t : List ℕ} {i : ℕ} where
   pub line-array : {best m r : ℕ} (cs : List Check) → Gives (λ v. least best (array_kind v)) x t i m → Checked (all cs) x t i m r → Checked (all (array_kind ∷ cs)) x t i best r
   line-array cs g h = line-then cs (checked array_kind g) h
 
+-- a check over what was found, at what that is
+pub over-is : {c : Option Json → Check} {x t : List ℕ} {found : Found} {i best r : ℕ} → CheckedOver c x t found i best r → (o : Option Json) → Finds x t o found
+    → Checked (c o) x t i best r
+over-is g o f = g.is o f
+
 -- ---- a member
 
 module _ {x t : List ℕ} {i : ℕ} {found : Found} (name : List ℕ) (f : Seeks (λ v. first_named name (members v)) x t i found) where
-  pub optional-none : (c : Check) {best : ℕ} → found ≡ Nothing → Checked (optional name c) x t i best best
+  pub optional-none : (c : Check) {best : ℕ} → found ≡ None → Checked (optional name c) x t i best best
   unfolding optional on Finds least
   optional-none c e = record { is = λ v s. let z : first_named name (members v) ≡ option.none = subst (Finds x t (first_named name (members v))) e (f.finds v s) in rw z }
 
-  pub optional-some : (c : Check) {best k r : ℕ} → found ≡ At k → Checked c x t k best r → Checked (optional name c) x t i best r
+  pub optional-some : (c : Check) {best k r : ℕ} → found ≡ Some k → Checked c x t k best r → Checked (optional name c) x t i best r
   unfolding optional on Finds
   optional-some c {best} {k} e g =
       record {
         is = λ v s.
-            let (w, p, q) : Finds x t (first_named name (members v)) (At k) = subst (Finds x t (first_named name (members v))) e (f.finds v s) in
+            let (w, p, q) : Finds x t (first_named name (members v)) (Some k) = subst (Finds x t (first_named name (members v))) e (f.finds v s) in
             g.is w q ∙ ap (λ o. least best (on c o)) (sym p);
       }
 
   pub optional-is : (c : Check) {best r : ℕ} → GivesFound (λ o. least best (on c o)) x t found r → Checked (optional name c) x t i best r
   unfolding optional
   optional-is c g = record { is = λ v s. g.is (first_named name (members v)) (f.finds v s) }
+
+  -- where what was found is checked by `map_or`
+  pub optional-map : (c : Check) {best r : ℕ} {P : ℕ → Type 0} → MatchOption found (r ≡ best) P → ((k : ℕ) → found ≡ Some k → P k → Checked c x t k best r)
+      → Checked (optional name c) x t i best r
+  optional-map c {best} {r} {P} m h = go found refl m
+    where
+      go : (o : Found) → found ≡ o → MatchOption o (r ≡ best) P → Checked (optional name c) x t i best r
+      go None e z = rw z (optional-none c e)
+      go (Some k) e z = optional-some c e (h k e z)
 
   pub required-then : (c : Check) {best m r : ℕ} → Needs x t found i best m → Checked (optional name c) x t i m r → Checked (required name c) x t i best r
   unfolding required
@@ -89,10 +103,10 @@ module _ {x t : List ℕ} {i : ℕ} {found : Found} (name : List ℕ) (f : Seeks
             g.is v s ∙ (ap (λ (b : ℕ). least b (optional name c v)) (n.is v (first_named name (members v)) s (f.finds v s)) ∙ sym (least-++ best u (optional name c v)));
       }
 
-  pub required-none : (c : Check) {best m : ℕ} → Needs x t found i best m → found ≡ Nothing → Checked (required name c) x t i best m
+  pub required-none : (c : Check) {best m : ℕ} → Needs x t found i best m → found ≡ None → Checked (required name c) x t i best m
   required-none c n e = required-then c n (optional-none c e)
 
-  pub required-some : (c : Check) {best m k r : ℕ} → Needs x t found i best m → found ≡ At k → Checked c x t k m r → Checked (required name c) x t i best r
+  pub required-some : (c : Check) {best m k r : ℕ} → Needs x t found i best m → found ≡ Some k → Checked c x t k m r → Checked (required name c) x t i best r
   required-some c n e g = required-then c n (optional-some c e g)
 
   pub member-found : Node x t i → MemberFound name x t i found
@@ -101,11 +115,17 @@ module _ {x t : List ℕ} {i : ℕ} {found : Found} (name : List ℕ) (f : Seeks
 pub found-sought : {name x t : List ℕ} {i : ℕ} {found : Found} → MemberFound name x t i found → Sought x t found
 found-sought m = sought-in m.seeks m.node
 
+-- the lesser of a fault and of that which was found, by `map_or`
+pub least-map : (a : ℕ) {b : ℕ} (found : Found) {P : ℕ → Type 0} → MatchOption found (b ≡ a) P → ((f : ℕ) → P f → b ≡ min a f) → b ≡ least_with a found
+unfolding least_with
+least-map a None m h = m
+least-map a (Some f) m h = h f m
+
 -- a value stands where it was found
-pub found-node : {name x t : List ℕ} {i k : ℕ} {found : Found} → MemberFound name x t i found → found ≡ At k → Node x t k
+pub found-node : {name x t : List ℕ} {i k : ℕ} {found : Found} → MemberFound name x t i found → found ≡ Some k → Node x t k
 found-node m e = at-node (found-sought m) e
 
-pub member-node : {x t : List ℕ} {i k : ℕ} {f : Json → Option Json} {found : Found} → Seeks f x t i found → Node x t i → found ≡ At k → Node x t k
+pub member-node : {x t : List ℕ} {i k : ℕ} {f : Json → Option Json} {found : Found} → Seeks f x t i found → Node x t i → found ≡ Some k → Node x t k
 member-node s d e = at-node (sought-in s d) e
 
 -- ---- the definition's order: the needs of all names first, and then the checks

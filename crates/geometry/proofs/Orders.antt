@@ -1,5 +1,5 @@
 -- The checks in the order of the code, and in that of the definition. What an object is checked for is listed here: a member that is added is added to its list.
-use Prim.Native.Nat.{ℕ, ◌≤◌, min}
+use Prim.Native.Nat.{ℕ, ◌≤◌}
 use mathlib.Core.Path.{◌≡◌, ap, ◌∙◌}
 use mathlib.Core.List.{List, [], ◌∷◌, ◌++◌}
 use Rattle.utf8.specs.Ascii.{ascii}
@@ -7,15 +7,14 @@ use Rattle.words.specs.Words.{geometry_words, code_of}
 use Rattle.nodes.specs.Access.{members, first_named, find}
 use Rattle.nodes.specs.Faults.{least}
 use Rattle.nodes.specs.Says.{Seeks, Gives, GivesFound}
-use Rattle.nodes.specs.declared.Found.{Found}
+use Rattle.nodes.specs.Says.{Found}
 use Rattle.fields.specs.Fields.{type_text, count_in}
-use Rattle.shapes.specs.Checks.{Check, all, on, at, object_kind}
+use Rattle.shapes.specs.Checks.{Check, all, at, object_kind}
 use Rattle.shapes.specs.Says.{Needs}
 use Rattle.rules.specs.Schema.{geometry_type, lod, surface_type, boundaries, surface, surfaces, values, semantics, needs_lod, geometry}
-use Rattle.geometry.specs.Says.{Checked, CheckedOver, optional, required, TypeAt, meaning}
+use Rattle.geometry.specs.Says.{Checked, CheckedOver, OwnFault, least_with, optional, required, TypeAt, meaning}
 use Rattle.geometry.proofs.Lines.{line-none, line-then, line-append, line-object, optional-is, required-then, Part, need, may, other, names, apart, together, gather}
 use Rattle.geometry.proofs.Strings.{type-code}
-use Rattle.geometry.proofs.GeometryLaws.{own-best}
 
 -- what they are checked for: a surface, the semantics of a geometry, and a geometry (its words, its body)
 unfoldable pub surface_parts : List Part
@@ -53,14 +52,14 @@ semantics-is {best = best} {n = n} code f u w k h =
     }
 
 -- its boundary, of which its own fault is known, and the semantics over it
-pub body_is : {x t : List ℕ} {i best a own b r : ℕ} {outline : Found} (vertices code : ℕ) → Seeks (λ v. first_named (ascii "boundaries") (members v)) x t i outline
-    → Needs x t outline i best a → a ≤ 4294967295 → GivesFound (λ o. least 4294967295 (on (boundaries vertices code) o)) x t outline own → b ≡ min a own
+pub body_is : {x t : List ℕ} {i best a b r : ℕ} {outline own : Found} (vertices code : ℕ) → Seeks (λ v. first_named (ascii "boundaries") (members v)) x t i outline
+    → Needs x t outline i best a → a ≤ 4294967295 → OwnFault vertices code x t outline own → b ≡ least_with a own
     → CheckedOver (λ o. optional (ascii "semantics") (semantics code o)) x t outline i b r
     → Checked (all (required (ascii "boundaries") (boundaries vertices code) ∷ meaning code ∷ [])) x t i best r
 unfolding meaning find
-body_is vertices code f n l k e h =
+body_is {a = a} vertices code f n l k e h =
     let c = boundaries vertices code in
-    let bounds = required-then (ascii "boundaries") f c n (optional-is (ascii "boundaries") f c (own-best c l k e)) in
+    let bounds = required-then (ascii "boundaries") f c n (optional-is (ascii "boundaries") f c (record { is = λ o y. e ∙ k.is o a y l })) in
     line-then (meaning code ∷ []) bounds (line-then [] (record { is = λ v s. (h.is (find "boundaries" v) (f.finds v s)).is v s }) line-none)
 
 pub geometry-is : {x t : List ℕ} {i best a r code : ℕ} {kind : Found} (vertices object : ℕ) → TypeAt geometry_words x t i kind code

@@ -1,5 +1,5 @@
--- Strings and their words, arrays of checked elements, and types with their codes.
-use Prim.Native.Nat.{ℕ, ◌≤◌}
+-- Strings and their words, and types with their codes.
+use Prim.Native.Nat.{ℕ}
 use Prim.Native.String.{String}
 use mathlib.Core.Path.{◌≡◌, refl, sym, ap, ◌∙◌, subst}
 use mathlib.Core.Bool.{Bool, true, false, not, ◌||◌}
@@ -10,15 +10,15 @@ use Rattle.utf8.specs.Ascii.{ascii}
 use Rattle.words.specs.Words.{code_of}
 use Rattle.json_text.specs.Tree.{Json}
 use Rattle.json_text.specs.Table.{Sub}
-use Rattle.nodes.specs.Access.{is_string_value, is_array_value, text_of, members, first_named, find}
+use Rattle.nodes.specs.Access.{is_string_value, text_of, members, first_named, find}
 use Rattle.nodes.specs.Faults.{least}
 use Rattle.nodes.specs.Says.{Node, Seeks, Finds, Gives, GivesFound}
-use Rattle.nodes.specs.declared.Found.{Found}
-use Rattle.nodes.specs.declared.Found.TheVariants.{At}
+use Rattle.nodes.specs.Says.{Found}
+use Rattle.std.specs.Prelude.{Some}
 use Rattle.fields.specs.Fields.{text_in, type_text}
 use Rattle.fields.specs.Laws.{string-node, string-first, string-second, string-span}
-use Rattle.shapes.specs.Checks.{Check, unless, all, each_element, string_kind, array_kind, text}
-use Rattle.shapes.specs.Laws.{gives_then, text-none, all_none, all_then, unless-told, unless-yes, kind-yes, Pass, pass-none, pass-done}
+use Rattle.shapes.specs.Checks.{Check, unless, all, string_kind, text}
+use Rattle.shapes.specs.Laws.{text-none, all_none, all_then, unless-told, unless-yes}
 use Rattle.geometry.specs.Says.{Checked, TypeAt, CodeAt}
 use Rattle.geometry.proofs.Lines.{lines, checked, found-node}
 
@@ -26,21 +26,6 @@ use Rattle.geometry.proofs.Lines.{lines, checked, found-node}
 pub two-checks : (c d : Check) (v : Json) → c v ++ d v ≡ all (c ∷ d ∷ []) v
 unfolding all
 two-checks c d v = ap (λ l. c v ++ l) (sym (append-nil (d v)))
-
--- an array of which each element is checked: another value, and an array
-module _ {x t : List ℕ} {i best : ℕ} (c : Check) {r : ℕ} {b : Bool} (g : Gives is_array_value x t i b) where
-  pub array-other : not b ≡ true → Gives (λ v. least best (array_kind v)) x t i r → Checked (all (array_kind ∷ each_element c ∷ [])) x t i best r
-  array-other e u =
-      record { is = λ v s. (gives_then best r array_kind (each_element c) u (pass-none c r g e)).is v s ∙ ap (least best) (two-checks array_kind (each_element c) v) }
-
-  array-each : not b ≡ false → Gives (λ v. least best (each_element c v)) x t i r → Checked (all (array_kind ∷ each_element c ∷ [])) x t i best r
-  unfolding array_kind
-  array-each e p = record { is = λ v s. (kind-yes best 7 (each_element c) g e p).is v s ∙ ap (least best) (two-checks array_kind (each_element c) v) }
-
--- the loop over its elements has come to the end
-pub array-done : {c : Check} {x t : List ℕ} {i best n k acc : ℕ} {b : Bool} → Gives is_array_value x t i b → not b ≡ false → Pass c x t i best n k acc → n ≤ k
-    → Checked (all (array_kind ∷ each_element c ∷ [])) x t i best acc
-array-done {c} g e p l = array-each c g e (pass-done p l)
 
 -- the texts of a string: another value has none, and a string's is told by its test
 module _ {x t : List ℕ} {i : ℕ} {b : Bool} (g : Gives is_string_value x t i b) where
@@ -73,7 +58,7 @@ pub type_at : {words : List String} {x t : List ℕ} {i code : ℕ} {kind : Foun
 type_at d f g = record { member = record { node = d; seeks = f }; is = g }
 
 -- its code is that of the string at its node
-pub code_at : {words : List String} {x t : List ℕ} {i code k : ℕ} {kind : Found} → TypeAt words x t i kind code → kind ≡ At k → CodeAt words x t k code
+pub code_at : {words : List String} {x t : List ℕ} {i code k : ℕ} {kind : Found} → TypeAt words x t i kind code → kind ≡ Some k → CodeAt words x t k code
 unfolding Finds text_in
 code_at {x = x} {t = t} c e = record { node = found-node c.member e; is = record { is = λ v s. c.is.is (some v) (subst (Finds x t (some v)) (sym e) (v, refl, s)) } }
 
@@ -82,7 +67,5 @@ pub type-code : {x t : List ℕ} {i code : ℕ} {words : List String} {kind : Fo
 unfolding type_text find
 type-code k v s = k.is.is (find "type" v) (k.member.seeks.finds v s)
 
--- what `search` is handed to close what a function over strings, arrays and members leaves
+-- what `search` is handed to close what a function over strings and members leaves
 pub ruleset strings = (lines, string-node, string-first, string-second, string-span, string-other, string-told, type_at, code_at)
-
-pub ruleset arrayed = (lines, array-other, array-done)

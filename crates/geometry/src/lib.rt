@@ -1,25 +1,123 @@
 // Rules 7, 8 and 10 to 14 of geometries. Each function takes the least fault so far and gives the least.
-// A member has a function of its name, which looks it up and asks rule 8 if it is needed, or is handed what was found where others use it too;
-// one whose name ends in `_at` checks the value at its node. An object's function is a line of such calls.
+// A function whose name ends in `_at` checks the value at its node. An object's function is a line of checks of its members, each by `optional`,
+// `required` or, where others use what was found, `required_found`, which are handed the check of the member's value.
 #![tactic(auto)]
 
-ghost use Rattle.std.specs.Prelude.{[], ◌∷◌};
+ghost use Rattle.std.specs.Prelude.{ℕ, Bool, List, [], ◌∷◌};
 ghost use Rattle.std.proofs.Math.Option.{some};
 ghost use Rattle.utf8.specs.Ascii.{ascii};
 ghost use Rattle.words.specs.Words.{geometry_words, is_lod, depth};
-ghost use Rattle.nodes.specs.Access.{text_of};
+ghost use Rattle.nodes.specs.Access.{text_of, first_named, members};
 ghost use Rattle.nodes.specs.Faults.{least};
-ghost use Rattle.nodes.specs.Says.{Node, Sought, Gives, GivesFound};
+ghost use Rattle.nodes.specs.Says.{Node, Sought, Seeks, Gives, GivesFound};
 ghost use Rattle.fields.specs.Says.{StringNode};
-ghost use Rattle.shapes.specs.Checks.{all, on, object_kind, is_empty};
+ghost use Rattle.shapes.specs.Checks.{Check, all, on, object_kind, string_kind, array_kind, each_element, is_empty};
+ghost use Rattle.shapes.specs.Checks as checks;
 ghost use Rattle.shapes.specs.Shapes.{shaped};
 ghost use Rattle.boundaries.specs.Says.{GivesTwo};
 ghost use Rattle.rules.specs.Schema.{geometry_type, surface_type, is_surface_type, boundaries, over_boundary, needs_lod};
 ghost use Rattle.rules.specs.Schema as schema;
 ghost use Rattle.geometry.specs.Says as says;
-ghost use Rattle.geometry.specs.Says.{Checked, CheckedOver, optional, required, MemberFound, TypeAt, CodeAt, SoundAt, Outlined, Overlaid};
+ghost use Rattle.geometry.specs.Says.{Checked, CheckedOver, optional, required, MemberFound, TypeAt, CodeAt, SoundAt, Outlined, OwnFault, Overlaid};
+ghost use Rattle.geometry.specs.Says.{Callable, Makes, CallableFound, MakesFound, Answers};
 
-use nodes::{Found, NO_FAULT};
+use nodes::NO_FAULT;
+
+// A member that may be absent: the check of its value, if it is there.
+pub fn optional<F: FnOnce(usize, u32) -> u32>(
+    text: &[u8],
+    table: &[u32],
+    i: usize,
+    name: &[u8],
+    best: u32,
+    check: F,
+) -> u32
+    requires node { Node text.now table.now i }
+    requires callable { Callable text.now table.now (F.pre check) }
+    ensures { (c : Check) → Makes text.now table.now (F.post check) c → Checked (optional name.now c) text.now table.now i best result }
+{
+    match nodes::member(text, table, i, name) {
+        Some(k) => check(k, best),
+        None => best,
+    }
+}
+
+// A member that is needed and was sought: rule 8, and the check of its value, if it was found.
+pub fn required_found<F: FnOnce(usize, u32) -> u32>(
+    text: &[u8],
+    table: &[u32],
+    i: usize,
+    found: Option<usize>,
+    best: u32,
+    check: F,
+) -> u32
+    requires sought { (Node text.now table.now i) × (Sought text.now table.now found) }
+    requires callable { CallableFound found (F.pre check) }
+    ensures { (name : List ℕ) (c : Check) → Seeks (λ v. first_named name (members v)) text.now table.now i found
+        → MakesFound text.now table.now found (F.post check) c → Checked (required name c) text.now table.now i best result }
+{
+    let a = shapes::need(found, text, table, i, best);
+    match found {
+        Some(k) => check(k, a),
+        None => a,
+    }
+}
+
+// A member that is needed: rule 8, and the check of its value, if it is there.
+pub fn required<F: FnOnce(usize, u32) -> u32>(
+    text: &[u8],
+    table: &[u32],
+    i: usize,
+    name: &[u8],
+    best: u32,
+    check: F,
+) -> u32
+    requires node { Node text.now table.now i }
+    requires callable { Callable text.now table.now (F.pre check) }
+    ensures { (c : Check) → Makes text.now table.now (F.post check) c → Checked (required name.now c) text.now table.now i best result }
+{
+    let found = nodes::member(text, table, i, name);
+    required_found(text, table, i, found, best, check)
+}
+
+// An array (7), and the check of each of its elements.
+pub fn array_of<F: Fn(usize, u32) -> u32>(
+    text: &[u8],
+    table: &[u32],
+    i: usize,
+    best: u32,
+    check: F,
+) -> u32
+    requires node { Node text.now table.now i }
+    requires callable { Callable text.now table.now (F.pre check) }
+    ensures { (c : Check) → Makes text.now table.now (F.post check) c
+        → Checked (all (array_kind ∷ each_element c ∷ [])) text.now table.now i best result }
+{
+    let mut least = shapes::array(text, table, i, best);
+    for k in nodes::elements(text, table, i) {
+        least = check(k, least);
+    }
+    least
+}
+
+// A string (7) whose text passes a test (10).
+pub fn string_that<F: FnOnce(usize) -> bool>(
+    text: &[u8],
+    table: &[u32],
+    k: usize,
+    best: u32,
+    test: F,
+) -> u32
+    requires node { Node text.now table.now k }
+    requires callable { StringNode text.now table.now k → F.pre test k }
+    ensures { (ok : List ℕ → Bool) → Answers text.now table.now k (F.post test k) ok
+        → Checked (all (string_kind ∷ checks.text 10 ok ∷ [])) text.now table.now k best result }
+{
+    if !nodes::is_string(text, table, k) {
+        return shapes::string(text, table, k, best);
+    }
+    shapes::unless(test(k), 10, text, table, k, best)
+}
 
 // Rules 7, 10, 11 and 14 of a geometry's type, whose code is given.
 fn geometry_type_at(
@@ -39,30 +137,12 @@ fn geometry_type_at(
     if code != 0 {
         return shapes::unless(types::permitted(object, code), 14, text, table, k, best);
     }
-    if fields::is_word(text, table, k, b"GeometryInstance") {
-        return shapes::unless(false, 11, text, table, k, best);
-    }
-    shapes::unless(false, 10, text, table, k, best)
-}
-
-// A geometry's type, which is needed.
-fn geometry_type(
-    text: &[u8],
-    table: &[u32],
-    i: usize,
-    kind: Found,
-    code: usize,
-    object: usize,
-    best: u32,
-) -> u32
-    requires { TypeAt geometry_words text.now table.now i kind code }
-    ensures { Checked (required (ascii "type") (geometry_type object code)) text.now table.now i best result }
-{
-    let a = shapes::need(kind, text, table, i, best);
-    let Found::At(k) = kind else {
-        return a;
+    let rule = if fields::is_word(text, table, k, b"GeometryInstance") {
+        11
+    } else {
+        10
     };
-    geometry_type_at(text, table, k, code, object, a)
+    shapes::unless(false, rule, text, table, k, best)
 }
 
 // Is the string at a node a level of detail?
@@ -82,21 +162,7 @@ fn lod_at(text: &[u8], table: &[u32], k: usize, best: u32) -> u32
     requires { Node text.now table.now k }
     ensures { Checked schema.lod text.now table.now k best result }
 {
-    if !nodes::is_string(text, table, k) {
-        return shapes::string(text, table, k, best);
-    }
-    shapes::unless(is_lod(text, table, k), 10, text, table, k, best)
-}
-
-// The `lod` that was found.
-fn lod(text: &[u8], table: &[u32], i: usize, found: Found, best: u32) -> u32
-    requires { MemberFound (ascii "lod") text.now table.now i found }
-    ensures { Checked (optional (ascii "lod") schema.lod) text.now table.now i best result }
-{
-    let Found::At(k) = found else {
-        return best;
-    };
-    lod_at(text, table, k, best)
+    string_that(text, table, k, best, |k| is_lod(text, table, k))
 }
 
 // Is the string at a node the type of a surface?
@@ -106,10 +172,7 @@ fn is_surface_type(text: &[u8], table: &[u32], k: usize) -> bool
 {
     let from = fields::text_from(text, table, k);
     let to = fields::text_to(text, table, k);
-    if words::surface_code(text, from, to) != 0 {
-        return true;
-    }
-    types::is_added_name(text, from, to)
+    words::surface_code(text, from, to) != 0 || types::is_added_name(text, from, to)
 }
 
 // Rules 7 and 10 of a surface's type.
@@ -117,23 +180,7 @@ fn surface_type_at(text: &[u8], table: &[u32], k: usize, best: u32) -> u32
     requires { Node text.now table.now k }
     ensures { Checked surface_type text.now table.now k best result }
 {
-    if !nodes::is_string(text, table, k) {
-        return shapes::string(text, table, k, best);
-    }
-    shapes::unless(is_surface_type(text, table, k), 10, text, table, k, best)
-}
-
-// A surface's type, which is needed.
-fn surface_type(text: &[u8], table: &[u32], i: usize, best: u32) -> u32
-    requires { Node text.now table.now i }
-    ensures { Checked (required (ascii "type") surface_type) text.now table.now i best result }
-{
-    let found = nodes::member(text, table, i, b"type");
-    let a = shapes::need(found, text, table, i, best);
-    let Found::At(k) = found else {
-        return a;
-    };
-    surface_type_at(text, table, k, a)
+    string_that(text, table, k, best, |k| is_surface_type(text, table, k))
 }
 
 // A surface.
@@ -142,7 +189,14 @@ fn surface(text: &[u8], table: &[u32], i: usize, best: u32) -> u32
     ensures { Gives (λ v. least best (schema.surface v)) text.now table.now i result }
 {
     let a = shapes::object(text, table, i, best);
-    surface_type(text, table, i, a)
+    required(
+        text,
+        table,
+        i,
+        b"type",
+        a,
+        |k, best| surface_type_at(text, table, k, best),
+    )
 }
 
 // An array of surfaces.
@@ -150,40 +204,30 @@ fn surfaces_at(text: &[u8], table: &[u32], i: usize, best: u32) -> u32
     requires { Node text.now table.now i }
     ensures { Checked schema.surfaces text.now table.now i best result }
 {
-    if !nodes::is_array(text, table, i) {
-        return shapes::array(text, table, i, best);
-    }
-    let n = nodes::next(table, i);
-    let mut least = best;
-    let mut k = i + 3;
-    while k < n {
-        least = surface(text, table, k, least);
-        k = nodes::next(table, k);
-    }
-    least
+    array_of(
+        text,
+        table,
+        i,
+        best,
+        |k, best| surface(text, table, k, best),
+    )
 }
 
-// The surfaces that were found, which are needed.
-fn surfaces(text: &[u8], table: &[u32], i: usize, found: Found, best: u32) -> u32
-    requires { MemberFound (ascii "surfaces") text.now table.now i found }
-    ensures { Checked (required (ascii "surfaces") schema.surfaces) text.now table.now i best result }
-{
-    let a = shapes::need(found, text, table, i, best);
-    let Found::At(k) = found else {
-        return a;
-    };
-    surfaces_at(text, table, k, a)
+// The boundary that was found, the code of its geometry's type, and whether it is known to have no fault.
+#[derive(Clone, Copy)]
+struct Outline {
+    at: Option<usize>,
+    code: usize,
+    sound: bool,
 }
 
-// Is the boundary at a node well shaped? That is known of a sound one.
-fn is_shaped(text: &[u8], table: &[u32], i: usize, code: usize, sound: bool) -> bool
-    requires { (Node text.now table.now i) × (SoundAt text.now table.now i code sound) }
-    ensures { Gives (λ v. is_empty (shaped (depth code) v)) text.now table.now i result }
+// Is the boundary at a node well shaped? That is known of a sound one; else `boundaries::shaped` gives `NO_FAULT` back if it finds no fault.
+fn is_shaped(text: &[u8], table: &[u32], i: usize, outline: Outline) -> bool
+    requires { (Node text.now table.now i) × (SoundAt text.now table.now i outline.code outline.sound) }
+    ensures { Gives (λ v. is_empty (shaped (depth outline.code) v)) text.now table.now i result }
 {
-    if sound {
-        return true;
-    }
-    boundaries::shaped(text, table, i, types::depth_of(code), NO_FAULT) == NO_FAULT
+    outline.sound
+        || boundaries::shaped(text, table, i, types::depth_of(outline.code), NO_FAULT) == NO_FAULT
 }
 
 // Rule 12 of the values at `v` over the boundary at `b`, which is judged only if the boundary is well shaped, and rule 13 of their integers.
@@ -192,17 +236,16 @@ fn over_boundary(
     table: &[u32],
     b: usize,
     v: usize,
-    code: usize,
-    sound: bool,
+    outline: Outline,
     surfaces: usize,
     best: u32,
 ) -> u32
-    requires { Overlaid text.now table.now b v code sound }
-    ensures { GivesTwo (λ w u. least best (over_boundary surfaces code (some w) u)) text.now table.now b v result }
+    requires { Overlaid text.now table.now b v outline }
+    ensures { GivesTwo (λ w u. least best (over_boundary surfaces outline.code (some w) u)) text.now table.now b v result }
 {
-    let depth = types::values_depth_of(code);
+    let depth = types::values_depth_of(outline.code);
     let range = boundaries::ranged(text, table, v, depth, surfaces, best);
-    if !is_shaped(text, table, b, code, sound) {
+    if !is_shaped(text, table, b, outline) {
         return range;
     }
     boundaries::matches(text, table, b, v, depth, range)
@@ -213,22 +256,17 @@ fn over_outline(
     text: &[u8],
     table: &[u32],
     v: usize,
-    outline: Found,
-    code: usize,
-    sound: bool,
+    outline: Outline,
     surfaces: usize,
     best: u32,
 ) -> u32
-    requires { (Node text.now table.now v) × (Outlined text.now table.now outline code sound) }
-    ensures { CheckedOver (over_boundary surfaces code) text.now table.now outline v best result }
+    requires { (Node text.now table.now v) × (Outlined text.now table.now outline) }
+    ensures { CheckedOver (over_boundary surfaces outline.code) text.now table.now outline.at v best result }
 {
-    let Found::At(b) = outline else {
-        return best;
-    };
-    if code == 0 {
-        return best;
+    match outline.at {
+        Some(b) if outline.code != 0 => over_boundary(text, table, b, v, outline, surfaces, best),
+        _ => best,
     }
-    over_boundary(text, table, b, v, code, sound, surfaces, best)
 }
 
 // An array of semantic values, over the boundary that was found.
@@ -236,78 +274,41 @@ fn values_at(
     text: &[u8],
     table: &[u32],
     v: usize,
-    outline: Found,
-    code: usize,
-    sound: bool,
+    outline: Outline,
     surfaces: usize,
     best: u32,
 ) -> u32
-    requires { (Node text.now table.now v) × (Outlined text.now table.now outline code sound) }
-    ensures { CheckedOver (schema.values surfaces code) text.now table.now outline v best result }
+    requires { (Node text.now table.now v) × (Outlined text.now table.now outline) }
+    ensures { CheckedOver (schema.values surfaces outline.code) text.now table.now outline.at v best result }
 {
     let a = shapes::array(text, table, v, best);
-    over_outline(text, table, v, outline, code, sound, surfaces, a)
+    over_outline(text, table, v, outline, surfaces, a)
 }
 
-// The semantic values, which are needed.
-fn values(
-    text: &[u8],
-    table: &[u32],
-    i: usize,
-    outline: Found,
-    code: usize,
-    sound: bool,
-    surfaces: usize,
-    best: u32,
-) -> u32
-    requires { (Node text.now table.now i) × (Outlined text.now table.now outline code sound) }
-    ensures { CheckedOver (λ o. required (ascii "values") (schema.values surfaces code o)) text.now table.now outline i best result }
-{
-    let found = nodes::member(text, table, i, b"values");
-    let a = shapes::need(found, text, table, i, best);
-    let Found::At(v) = found else {
-        return a;
-    };
-    values_at(text, table, v, outline, code, sound, surfaces, a)
-}
-
-// Semantics over the boundary that was found, which is sound if it has no fault.
-fn semantics_at(
-    text: &[u8],
-    table: &[u32],
-    i: usize,
-    outline: Found,
-    code: usize,
-    sound: bool,
-    best: u32,
-) -> u32
-    requires { (Node text.now table.now i) × (Outlined text.now table.now outline code sound) }
-    ensures { CheckedOver (schema.semantics code) text.now table.now outline i best result }
+// Semantics over the boundary that was found.
+fn semantics_at(text: &[u8], table: &[u32], i: usize, outline: Outline, best: u32) -> u32
+    requires { (Node text.now table.now i) × (Outlined text.now table.now outline) }
+    ensures { CheckedOver (schema.semantics outline.code) text.now table.now outline.at i best result }
 {
     let all = nodes::member(text, table, i, b"surfaces");
-    let a = shapes::object(text, table, i, best);
-    let b = surfaces(text, table, i, all, a);
     let count = fields::count_found(text, table, all);
-    values(text, table, i, outline, code, sound, count, b)
-}
-
-// A geometry's semantics.
-fn semantics(
-    text: &[u8],
-    table: &[u32],
-    i: usize,
-    outline: Found,
-    code: usize,
-    sound: bool,
-    best: u32,
-) -> u32
-    requires { (Node text.now table.now i) × (Outlined text.now table.now outline code sound) }
-    ensures { CheckedOver (λ o. optional (ascii "semantics") (schema.semantics code o)) text.now table.now outline i best result }
-{
-    let Found::At(k) = nodes::member(text, table, i, b"semantics") else {
-        return best;
-    };
-    semantics_at(text, table, k, outline, code, sound, best)
+    let a = shapes::object(text, table, i, best);
+    let b = required_found(
+        text,
+        table,
+        i,
+        all,
+        a,
+        |k, best| surfaces_at(text, table, k, best),
+    );
+    required(
+        text,
+        table,
+        i,
+        b"values",
+        b,
+        |v, best| values_at(text, table, v, outline, count, best),
+    )
 }
 
 // A boundary: an array (7), its shape (12) and its indices (13).
@@ -322,22 +323,20 @@ fn boundary_at(text: &[u8], table: &[u32], k: usize, code: usize, vertices: usiz
     boundaries::boundary(text, table, k, types::depth_of(code), vertices, kind)
 }
 
-// The boundary that was found.
-fn boundary(
+// The least fault of the boundary that was found, if it has one.
+fn boundary_fault(
     text: &[u8],
     table: &[u32],
-    found: Found,
+    found: Option<usize>,
     code: usize,
     vertices: usize,
-    best: u32,
-) -> u32
+) -> Option<u32>
     requires { Sought text.now table.now found }
-    ensures { GivesFound (λ o. least best (on (boundaries vertices code) o)) text.now table.now found result }
+    ensures { OwnFault vertices code text.now table.now found result }
 {
-    let Found::At(k) = found else {
-        return best;
-    };
-    boundary_at(text, table, k, code, vertices, best)
+    // What `boundaries::boundary` promises is the least of this start and its faults, so a start that no fault reaches tells whether there are any.
+    let least = boundary_at(text, table, found?, code, vertices, u32::MAX);
+    if least == u32::MAX { None } else { Some(least) }
 }
 
 // A geometry's boundary, which is needed, and its semantics. Whether the boundary is sound is told by its own fault.
@@ -346,15 +345,31 @@ fn body(text: &[u8], table: &[u32], i: usize, code: usize, vertices: usize, best
     ensures { Checked (all (required (ascii "boundaries") (boundaries vertices code) ∷ says.meaning code ∷ []))
         text.now table.now i best result }
 {
-    let outline = nodes::member(text, table, i, b"boundaries");
-    let a = shapes::need(outline, text, table, i, best);
-    let own = boundary(text, table, outline, code, vertices, 0xffff_ffff);
-    let b = nodes::lesser(a, own);
-    semantics(text, table, i, outline, code, own == 0xffff_ffff, b)
+    let at = nodes::member(text, table, i, b"boundaries");
+    let a = shapes::need(at, text, table, i, best);
+    let own = boundary_fault(text, table, at, code, vertices);
+    let b = own.map_or(a, |fault| nodes::lesser(a, fault));
+    let sound = own.is_none();
+    let outline = Outline { at, code, sound };
+    optional(
+        text,
+        table,
+        i,
+        b"semantics",
+        b,
+        |k, best| semantics_at(text, table, k, outline, best),
+    )
 }
 
 // Rule 8 of `lod`, which a geometry needs unless its type is `GeometryInstance`.
-fn need_lod(text: &[u8], table: &[u32], i: usize, kind: Found, found: Found, best: u32) -> u32
+fn need_lod(
+    text: &[u8],
+    table: &[u32],
+    i: usize,
+    kind: Option<usize>,
+    found: Option<usize>,
+    best: u32,
+) -> u32
     requires { (MemberFound (ascii "type") text.now table.now i kind) × (MemberFound (ascii "lod") text.now table.now i found) }
     ensures { Checked needs_lod text.now table.now i best result }
 {
@@ -369,7 +384,7 @@ fn geometry_words(
     text: &[u8],
     table: &[u32],
     i: usize,
-    kind: Found,
+    kind: Option<usize>,
     code: usize,
     object: usize,
     best: u32,
@@ -381,8 +396,15 @@ fn geometry_words(
     let level = nodes::member(text, table, i, b"lod");
     let a = shapes::object(text, table, i, best);
     let b = need_lod(text, table, i, kind, level, a);
-    let c = geometry_type(text, table, i, kind, code, object, b);
-    lod(text, table, i, level, c)
+    let c = required_found(
+        text,
+        table,
+        i,
+        kind,
+        b,
+        |k, best| geometry_type_at(text, table, k, code, object, best),
+    );
+    level.map_or(c, |k| lod_at(text, table, k, c))
 }
 
 // A geometry of an object whose type has the code `object`.
@@ -408,15 +430,11 @@ pub fn geometries_at(
     requires { Node text.now table.now i }
     ensures { Checked (schema.geometries vertices object) text.now table.now i best result }
 {
-    if !nodes::is_array(text, table, i) {
-        return shapes::array(text, table, i, best);
-    }
-    let n = nodes::next(table, i);
-    let mut least = best;
-    let mut k = i + 3;
-    while k < n {
-        least = geometry(text, table, k, vertices, object, least);
-        k = nodes::next(table, k);
-    }
-    least
+    array_of(
+        text,
+        table,
+        i,
+        best,
+        |k, best| geometry(text, table, k, vertices, object, best),
+    )
 }

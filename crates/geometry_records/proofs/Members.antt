@@ -13,8 +13,8 @@ use Rattle.json_text.specs.Tree.{Json}
 use Rattle.json_text.specs.Table.{Sub}
 use Rattle.nodes.specs.Access.{members, first_named, find}
 use Rattle.nodes.specs.Says.{Finds, Seeks, Gives, GivesFound}
-use Rattle.nodes.specs.declared.Found.{Found}
-use Rattle.nodes.specs.declared.Found.TheVariants.{At, Nothing}
+use Rattle.nodes.specs.Says.{Found}
+use Rattle.std.specs.Prelude.{Some, None, IsSome}
 use Rattle.shapes.specs.Laws.{seeks-find}
 use Rattle.fields.specs.Fields.{text_in, type_text}
 use Rattle.words.specs.Words.{geometry_words, code_of, is_lod, depth, values_depth}
@@ -40,12 +40,12 @@ the z = ap or_null z
 
 module _ {x t : List ℕ} {i : ℕ} (name : String) {found : Found} (k : Seeks (λ v. find name v) x t i found) where
   -- the value that was found is the member
-  member-at : {j : ℕ} → found ≡ At j → (v : Json) → Sub x t i v → (w : Json) × (find name v ≡ some w) × Sub x t j w
+  member-at : {j : ℕ} → found ≡ Some j → (v : Json) → Sub x t i v → (w : Json) × (find name v ≡ some w) × Sub x t j w
   unfolding Finds
   member-at {j} e v s = subst (Finds x t (find name v)) e (k.finds v s)
 
   -- a member that may be there
-  pub perhaps-at : {P : Json → Type 0} {j : ℕ} → Holds (Perhaps P name) x t i → found ≡ At j → Holds P x t j
+  pub perhaps-at : {P : Json → Type 0} {j : ℕ} → Holds (Perhaps P name) x t i → found ≡ Some j → Holds P x t j
   perhaps-at h e =
       let d = h.node in
       let (w, q, s) = member-at e d.value d.stands in
@@ -64,17 +64,17 @@ module _ {x t : List ℕ} {i : ℕ} (name : String) {found : Found} (k : Seeks (
 module _ {name x t : List ℕ} {i : ℕ} where
   -- it is found if it is there
   module _ {found : Found} (f : Seeks (λ v. first_named name (members v)) x t i found) where
-    pub there-at : {k : ℕ} → found ≡ At k → Leads name x t i k
+    pub there-at : {k : ℕ} → found ≡ Some k → Leads name x t i k
     unfolding Finds
     there-at e = record { is = λ v s. subst (Finds x t (first_named name (members v))) e (f.finds v s) }
 
-    pub there-none : {k : ℕ} → Holds (There name) x t i → found ≡ Nothing → Leads name x t i k
+    pub there-is : Holds (There name) x t i → IsSome found
     unfolding Finds
-    there-none h e =
-        let d = h.node in
-        let n : first_named name (members d.value) ≡ none = subst (Finds x t (first_named name (members d.value))) e (f.finds d.value d.stands) in
-        let z : ◌≡◌ {A = Option Json} none (some _) = sym n ∙ (h.holds d.value d.stands).found in
-        absurd (clash cc)
+    there-is h = let d = h.node in go found (f.finds d.value d.stands) (h.holds d.value d.stands).found
+      where
+        go : {o : Option Json} {v : Json} (k : Found) → Finds x t o k → o ≡ some v → IsSome k
+        go (Some k) q e = refl
+        go None q e = let z : ◌≡◌ {A = Option Json} none (some _) = sym q ∙ e in absurd (clash cc)
 
   -- what is known of it, and what was written for it
   module _ {k : ℕ} (l : Leads name x t i k) where
@@ -109,11 +109,11 @@ has_named name h = record { there = record { value = h.value; found = h.found };
 module _ {x t : List ℕ} {i : ℕ} where
   -- the surfaces, and the values
   module _ {found : Found} (f : Seeks (λ v. first_named (ascii "surfaces") (members v)) x t i found) where
-    pub surfaces-none : {d : List ℕ} {to : ℕ} → found ≡ Nothing → Wrote surfaces_member x t i d d to to
+    pub surfaces-none : {d : List ℕ} {to : ℕ} → found ≡ None → Wrote surfaces_member x t i d d to to
     unfolding surfaces_member
     surfaces-none e = wrote-member "surfaces" (seeks-find "surfaces" refl f) (each_none surface_bytes e)
 
-    pub surfaces-some : {k : ℕ} {d₀ d : List ℕ} {to r : ℕ} → found ≡ At k → Wrote (each surface_bytes) x t k d₀ d to r → Wrote surfaces_member x t i d₀ d to r
+    pub surfaces-some : {k : ℕ} {d₀ d : List ℕ} {to r : ℕ} → found ≡ Some k → Wrote (each surface_bytes) x t k d₀ d to r → Wrote surfaces_member x t i d₀ d to r
     unfolding surfaces_member
     surfaces-some e w = wrote-member "surfaces" (seeks-find "surfaces" refl f) (each-some surface_bytes e w)
 
@@ -165,15 +165,15 @@ module _ {x t : List ℕ} {i : ℕ} where
 
   -- the semantics, which may be absent
   module _ (code : ℕ) {found : Found} (f : Seeks (λ v. first_named (ascii "semantics") (members v)) x t i found) where
-    pub semantics-none : {d : List ℕ} {to : ℕ} → found ≡ Nothing → Wrote (semantics_member code) x t i d d to to
+    pub semantics-none : {d : List ℕ} {to : ℕ} → found ≡ None → Wrote (semantics_member code) x t i d d to to
     unfolding semantics_member semantics_in
     semantics-none e = wrote-member "semantics" (seeks-find "semantics" refl f) (wrote_none {f = semantics_in code} e refl)
 
-    pub semantics-some : {k : ℕ} {d₀ d : List ℕ} {to r : ℕ} → found ≡ At k → Wrote (semantics_bytes code) x t k d₀ d to r → Wrote (semantics_member code) x t i d₀ d to r
+    pub semantics-some : {k : ℕ} {d₀ d : List ℕ} {to r : ℕ} → found ≡ Some k → Wrote (semantics_bytes code) x t k d₀ d to r → Wrote (semantics_member code) x t i d₀ d to r
     unfolding semantics_member semantics_in
     semantics-some e w = wrote-member "semantics" (seeks-find "semantics" refl f) (wrote-some {f = semantics_in code} e w)
 
-    pub semantics-there : {k : ℕ} → Holds (Perhaps (SemanticsFit code) "semantics") x t i → found ≡ At k → Holds (SemanticsFit code) x t k
+    pub semantics-there : {k : ℕ} → Holds (Perhaps (SemanticsFit code) "semantics") x t i → found ≡ Some k → Holds (SemanticsFit code) x t k
     semantics-there h e = perhaps-at "semantics" (seeks-find "semantics" refl f) h e
 
   -- what is asked of a geometry, by the code of its type
@@ -186,13 +186,13 @@ module _ {x t : List ℕ} {i : ℕ} where
 
   -- the geometries of an object, which may be absent
   module _ {found : Found} (f : Seeks (λ v. first_named (ascii "geometry") (members v)) x t i found) where
-    pub geometries-none : {d : List ℕ} {to : ℕ} → found ≡ Nothing → Wrote geometries_member x t i d d to to
+    pub geometries-none : {d : List ℕ} {to : ℕ} → found ≡ None → Wrote geometries_member x t i d d to to
     unfolding geometries_member
     geometries-none e = wrote-member "geometry" (seeks-find "geometry" refl f) (each_none geometry_bytes e)
 
-    pub geometries-some : {k : ℕ} {d₀ d : List ℕ} {to r : ℕ} → found ≡ At k → Wrote (each geometry_bytes) x t k d₀ d to r → Wrote geometries_member x t i d₀ d to r
+    pub geometries-some : {k : ℕ} {d₀ d : List ℕ} {to r : ℕ} → found ≡ Some k → Wrote (each geometry_bytes) x t k d₀ d to r → Wrote geometries_member x t i d₀ d to r
     unfolding geometries_member
     geometries-some e w = wrote-member "geometry" (seeks-find "geometry" refl f) (each-some geometry_bytes e w)
 
-    pub geometries-there : {k : ℕ} → Holds (Perhaps (Elements GeometryFits) "geometry") x t i → found ≡ At k → Holds (Elements GeometryFits) x t k
+    pub geometries-there : {k : ℕ} → Holds (Perhaps (Elements GeometryFits) "geometry") x t i → found ≡ Some k → Holds (Elements GeometryFits) x t k
     geometries-there h e = perhaps-at "geometry" (seeks-find "geometry" refl f) h e

@@ -1,17 +1,18 @@
 -- Records at a node, from what the code's tests and callees say.
-use Prim.Native.Nat.{ℕ, ◌≤◌, ◌<◌}
+use Prim.Native.Nat.{ℕ, ◌≤◌}
 use mathlib.Core.Path.{◌≡◌, refl}
 use mathlib.Core.List.{List, [], ◌∷◌}
 use Rattle.json_text.specs.Tree.{Json}
 use Rattle.nodes.specs.Access.{elements}
 use Rattle.nodes.specs.Says.{Node}
-use Rattle.nodes.specs.declared.Found.{Found}
-use Rattle.nodes.specs.declared.Found.TheVariants.{At, Nothing}
+use Rattle.nodes.specs.declared.Siblings.{Siblings}
+use Rattle.nodes.specs.Says.{Found}
+use Rattle.std.specs.Prelude.{Some, None}
 use Rattle.model.specs.Code.{concat_map, All}
 use Rattle.model.specs.Read.{or_null}
 use Rattle.arrays.specs.Fits.{Elements}
 use Rattle.arrays.specs.Says.{Holds, Wrote, WroteFound}
-use Rattle.arrays.specs.Laws.{Laying, laying-item, laying-done, wrote_none, wrote-some}
+use Rattle.arrays.specs.Laws.{Laying, laying-done, wrote_none, wrote-some}
 use Rattle.geometry_records.specs.Bytes.{each_in}
 use Rattle.geometry_records.specs.Members.{each}
 
@@ -37,20 +38,17 @@ pub any-elements : {x t : List ℕ} {i : ℕ} → Node x t i → Holds (Elements
 unfolding Elements
 any-elements d = record { node = d; holds = λ v s. all_any (elements v) }
 
--- the loop over them goes from node to node
-pub laying-node : {P : Json → Type 0} {f : Json → List ℕ} {x t : List ℕ} {i n k : ℕ} {d₀ d : List ℕ} {to at : ℕ} → Laying P f x t i n k d₀ d to at → k < n → Node x t k
-laying-node p l = (laying-item p l).node
-
 -- all of them were written
-pub each_all : {P : Json → Type 0} {f : Json → List ℕ} {x t : List ℕ} {i n k : ℕ} {d₀ d : List ℕ} {to at : ℕ} → Laying P f x t i n k d₀ d to at → n ≤ k → Wrote (each f) x t i d₀ d to at
+pub each_all : {P : Json → Type 0} {f : Json → List ℕ} {x t : List ℕ} {i : ℕ} {s : Siblings} {d₀ d : List ℕ} {to at : ℕ} → Laying P f x t i s d₀ d to at
+    → s.end ≤ s.at → Wrote (each f) x t i d₀ d to at
 unfolding each
 each_all p h = laying-done p h
 
 module _ (f : Json → List ℕ) {x t : List ℕ} {found : Found} where
-  pub each_none : {d : List ℕ} {to : ℕ} → found ≡ Nothing → WroteFound (each_in f) x t found d d to to
+  pub each_none : {d : List ℕ} {to : ℕ} → found ≡ None → WroteFound (each_in f) x t found d d to to
   unfolding each_in or_null elements concat_map
   each_none e = wrote_none e refl
 
-  pub each-some : {k : ℕ} {d₀ d : List ℕ} {to r : ℕ} → found ≡ At k → Wrote (each f) x t k d₀ d to r → WroteFound (each_in f) x t found d₀ d to r
+  pub each-some : {k : ℕ} {d₀ d : List ℕ} {to r : ℕ} → found ≡ Some k → Wrote (each f) x t k d₀ d to r → WroteFound (each_in f) x t found d₀ d to r
   unfolding each_in each or_null
   each-some e w = wrote-some e w

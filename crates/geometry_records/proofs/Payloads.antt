@@ -1,5 +1,5 @@
 -- Records: a header around a payload, and what comes together in one.
-use Prim.Native.Nat.{ℕ, ◌-◌}
+use Prim.Native.Nat.{ℕ}
 use mathlib.Core.Path.{◌≡◌, refl, sym, ap, ◌∙◌}
 use mathlib.Core.List.{List, append-nil}
 use Rattle.utf8.specs.Bytes.{le}
@@ -10,8 +10,10 @@ use Rattle.model.specs.Code.{concat_map}
 use Rattle.model.specs.Model.{rec, lay_rec, lay_surface, surface_recs}
 use Rattle.model.specs.Read.{surface_named, surface_of}
 use Rattle.sheets.specs.Clear.{type-text}
-use Rattle.writer.specs.Writes.{Writes, Closes}
-use Rattle.writer.specs.Laws.{then}
+use Rattle.std.specs.Borrow.{MutBor}
+use Rattle.std.specs.Fn.{Once}
+use Rattle.writer.specs.Writes.{Writes, Recorded}
+use Rattle.writer.specs.Laws.{then, recorded_writes}
 use Rattle.arrays.specs.Says.{Wrote}
 use Rattle.arrays.specs.Laws.{wrote_as, wrote_then}
 use Rattle.geometry_records.specs.Fits.{geometry_code}
@@ -26,11 +28,12 @@ use Rattle.geometry_records.specs.Members.{surface_payload, values_payload, shap
 pub record IsRecord (kind : ℕ) (f g : Json → List ℕ) : Type 0 where
   pub is : (v : Json) → lay_rec (rec kind (f v)) ≡ g v
 
-pub closed : {kind : ℕ} {f g : Json → List ℕ} {x t : List ℕ} {i : ℕ} {d₀ d d' : List ℕ} {at body end : ℕ}
-    → IsRecord kind f g → Wrote f x t i d₀ d body end → Closes kind at body end d d' → Wrote g x t i d₀ d' at end
-closed e w c = record { is = λ v s. rw (e.is v) at (c.closes _ _ (w.is v s)) }
+pub recorded : {F : Type 0} {o : Once F (MutBor (List ℕ) × (ℕ × Unit {0})) (ℕ × (MutBor (List ℕ) × Unit {0}))} {h : F} {kind : ℕ} {f g : Json → List ℕ}
+    {x t : List ℕ} {i : ℕ} {d₀ d : List ℕ} {at r : ℕ} → IsRecord kind f g → Recorded o h kind d₀ d at r
+    → ((p q : MutBor (List ℕ)) (body end : ℕ) → o.post h (p, (body, tt)) (end, (q, tt)) → Wrote f x t i p.now q.now body end) → Wrote g x t i d₀ d at r
+recorded e c w = record { is = λ v s. rw (e.is v) at (recorded_writes c (λ p q body end m. (w p q body end m).is v s)) }
 
-shape-record : (code : ℕ) → IsRecord 6 (shape_payload code) (shape_bytes code)
+pub shape-record : (code : ℕ) → IsRecord 6 (shape_payload code) (shape_bytes code)
 unfolding shape_payload shape_bytes lod_member boundary_member
 shape-record code = record { is = λ v. refl }
 
@@ -38,17 +41,9 @@ pub surface-record : IsRecord 7 surface_payload surface_bytes
 unfolding surface_payload surface_bytes surface_of surface_recs concat_map type_text
 surface-record = record { is = λ v. ap (λ w. lay_rec (rec 7 (lay_surface (surface_named w)))) (type-text v) ∙ sym (append-nil _) }
 
-values-record : (code : ℕ) → IsRecord 8 (values_payload code) (values_member code)
+pub values-record : (code : ℕ) → IsRecord 8 (values_payload code) (values_member code)
 unfolding values_payload values_member values_bytes
 values-record code = record { is = λ v. refl }
-
--- the same of the records that depend on a geometry's code
-module _ (code : ℕ) {x t : List ℕ} {i : ℕ} {d₀ d d' : List ℕ} {at body end : ℕ} where
-  pub shape-closed : Wrote (shape_payload code) x t i d₀ d body end → Closes 6 at body end d d' → Wrote (shape_bytes code) x t i d₀ d' at end
-  shape-closed w c = closed (shape-record code) w c
-
-  pub values-closed : Wrote (values_payload code) x t i d₀ d body end → Closes 8 at body end d d' → Wrote (values_member code) x t i d₀ d' at end
-  values-closed w c = closed (values-record code) w c
 
 -- ---- one after the other
 

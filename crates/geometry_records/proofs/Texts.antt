@@ -16,8 +16,8 @@ use Rattle.strings.specs.Spans.{Span, decode_at, Copied}
 use Rattle.words.specs.Words.{surface_words, code_of, is_added, is_lod}
 use Rattle.nodes.specs.Access.{is_string_value}
 use Rattle.nodes.specs.Says.{Gives, GivesFound}
-use Rattle.nodes.specs.declared.Found.{Found}
-use Rattle.nodes.specs.declared.Found.TheVariants.{At, Nothing}
+use Rattle.nodes.specs.Says.{Found}
+use Rattle.std.specs.Prelude.{Some, None}
 use Rattle.fields.specs.Fields.{text_in}
 use Rattle.fields.specs.Says.{StringNode}
 use Rattle.fields.specs.Laws.{of_none, of_some, string-span, string-text, other_text}
@@ -42,15 +42,15 @@ module _ {x t : List ℕ} {found : Found} where
   quotes-empty : GivesFound text_in x t found [] → Quotes x t found (record { from = 0; to = 0 })
   quotes-empty g = quotes-by (record { low = omega arith; high = omega arith }) (rw (← decode-none x) g)
 
-  pub quotes-none : found ≡ Nothing → Quotes x t found (record { from = 0; to = 0 })
+  pub quotes-none : found ≡ None → Quotes x t found (record { from = 0; to = 0 })
   unfolding text_in
   quotes-none e = quotes-empty (of_none text_in e refl)
 
-  pub quotes-other : {k : ℕ} {b : Bool} → found ≡ At k → Gives is_string_value x t k b → not b ≡ true → Quotes x t found (record { from = 0; to = 0 })
+  pub quotes-other : {k : ℕ} {b : Bool} → found ≡ Some k → Gives is_string_value x t k b → not b ≡ true → Quotes x t found (record { from = 0; to = 0 })
   unfolding text_in
   quotes-other e g h = quotes-empty (of_some text_in e (other_text (λ l. l) g h refl))
 
-  pub quotes-string : {k p e : ℕ} → found ≡ At k → StringNode x t k → p ≡ get_or t k 0 + 1 → e ≡ get_or t (k + 1) 0 - 1 → Quotes x t found (record { from = p; to = e })
+  pub quotes-string : {k p e : ℕ} → found ≡ Some k → StringNode x t k → p ≡ get_or t k 0 + 1 → e ≡ get_or t (k + 1) 0 - 1 → Quotes x t found (record { from = p; to = e })
   unfolding text_in
   quotes-string f d q r = quotes-by (string-span d q r) (of_some text_in f (string-text d (λ l. l) q r refl))
 

@@ -4,7 +4,7 @@ use Rattle.std.proofs.Math.Option.{Option}
 use Rattle.strings.specs.Spans.{Span, decode_at}
 use Rattle.json_text.specs.Tree.{Json}
 use Rattle.nodes.specs.Says.{Finds}
-use Rattle.nodes.specs.declared.Found.{Found}
+use Rattle.nodes.specs.Says.{Found}
 use Rattle.fields.specs.Fields.{text_in}
 use Rattle.geometry_records.specs.declared.Quote.{Quote}
 

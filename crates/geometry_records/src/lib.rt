@@ -20,8 +20,6 @@ ghost use Rattle.geometry_records.specs.Fits.{Perhaps, geometry_code, SemanticsF
 ghost use Rattle.geometry_records.specs.Bytes.{surface_bytes, semantics_bytes, shape_bytes, geometry_bytes};
 ghost use Rattle.geometry_records.specs.Says.{Quotes};
 
-use nodes::Found;
-
 // Where the bytes of a string stand in the text, between its quotes.
 #[derive(Drop)]
 struct Quote {
@@ -30,19 +28,16 @@ struct Quote {
 }
 
 // Where the bytes of the string that was found stand; no bytes, if no string was found.
-fn quoted(text: &[u8], table: &[u32], found: Found) -> Quote
+fn quoted(text: &[u8], table: &[u32], found: Option<usize>) -> Quote
     requires { Sought text.now table.now found }
     ensures { Quotes text.now table.now found result }
 {
-    let Found::At(k) = found else {
-        return Quote { from: 0, to: 0 };
-    };
-    if !nodes::is_string(text, table, k) {
-        return Quote { from: 0, to: 0 };
-    }
-    Quote {
-        from: fields::text_from(text, table, k),
-        to: fields::text_to(text, table, k),
+    match found {
+        Some(k) if nodes::is_string(text, table, k) => Quote {
+            from: fields::text_from(text, table, k),
+            to: fields::text_to(text, table, k),
+        },
+        _ => Quote { from: 0, to: 0 },
     }
 }
 
@@ -59,11 +54,7 @@ pub fn the_member(text: &[u8], table: &[u32], i: usize, name: &[u8]) -> usize
     requires { Holds (There name.now) text.now table.now i }
     ensures { Leads name.now text.now table.now i result }
 {
-    let found = nodes::member(text, table, i, name);
-    let Found::At(node) = found else {
-        return i;
-    };
-    node
+    nodes::member(text, table, i, name).unwrap()
 }
 
 // The value of a digit.
@@ -71,7 +62,7 @@ fn digit(b: u8) -> u64
     requires { 48 ≤ b }
     ensures { result ≡ b - 48 }
 {
-    (b - b'0') as u64
+    u64::from(b - b'0')
 }
 
 // The code of a lod: `2.1` is 2·16+1, `2` is 2·16+15.
@@ -115,10 +106,12 @@ fn surface(text: &[u8], table: &[u32], i: usize, sheet: &mut [u8], at: usize) ->
     requires { Node text.now table.now i }
     ensures { Wrote surface_bytes text.now table.now i sheet.old sheet.new at result }
 {
-    let body = writer::skip(at, 6);
-    let end = surface_body(text, table, i, sheet, body);
-    writer::close(sheet, at, body, end, 7);
-    end
+    writer::record(
+        sheet,
+        at,
+        7,
+        |sheet, body| surface_body(text, table, i, sheet, body),
+    )
 }
 
 // The surfaces in an array.
@@ -126,12 +119,9 @@ fn surfaces(text: &[u8], table: &[u32], i: usize, sheet: &mut [u8], at: usize) -
     requires { Node text.now table.now i }
     ensures { Wrote (each surface_bytes) text.now table.now i sheet.old sheet.new at result }
 {
-    let n = arrays::elements_end(text, table, i);
     let mut o = at;
-    let mut k = i + 3;
-    while k < n {
+    for k in nodes::elements(text, table, i) {
         o = surface(text, table, k, sheet, o);
-        k = nodes::next(table, k);
     }
     o
 }
@@ -141,11 +131,10 @@ fn surfaces_in(text: &[u8], table: &[u32], i: usize, sheet: &mut [u8], at: usize
     requires { Node text.now table.now i }
     ensures { Wrote surfaces_member text.now table.now i sheet.old sheet.new at result }
 {
-    let found = nodes::member(text, table, i, b"surfaces");
-    let Found::At(k) = found else {
-        return at;
-    };
-    surfaces(text, table, k, sheet, at)
+    match nodes::member(text, table, i, b"surfaces") {
+        Some(k) => surfaces(text, table, k, sheet, at),
+        None => at,
+    }
 }
 
 // The payload of the values of the semantics at a node, of a geometry of that code.
@@ -169,10 +158,12 @@ fn values(text: &[u8], table: &[u32], i: usize, code: usize, sheet: &mut [u8], a
     requires { Holds (SemanticsFit code) text.now table.now i }
     ensures { Wrote (values_member code) text.now table.now i sheet.old sheet.new at result }
 {
-    let body = writer::skip(at, 6);
-    let end = values_body(text, table, i, code, sheet, body);
-    writer::close(sheet, at, body, end, 8);
-    end
+    writer::record(
+        sheet,
+        at,
+        8,
+        |sheet, body| values_body(text, table, i, code, sheet, body),
+    )
 }
 
 // The semantics of a geometry of that code: kind 7 for each surface, and kind 8.
@@ -203,11 +194,10 @@ fn semantics_in(
     requires { Holds (Perhaps (SemanticsFit code) "semantics") text.now table.now i }
     ensures { Wrote (semantics_member code) text.now table.now i sheet.old sheet.new at result }
 {
-    let found = nodes::member(text, table, i, b"semantics");
-    let Found::At(k) = found else {
-        return at;
-    };
-    semantics(text, table, k, code, sheet, at)
+    match nodes::member(text, table, i, b"semantics") {
+        Some(k) => semantics(text, table, k, code, sheet, at),
+        None => at,
+    }
 }
 
 // The lod of a geometry in two bytes.
@@ -250,10 +240,12 @@ fn shape(text: &[u8], table: &[u32], i: usize, code: usize, sheet: &mut [u8], at
     requires { Holds (ShapeFits code) text.now table.now i }
     ensures { Wrote (shape_bytes code) text.now table.now i sheet.old sheet.new at result }
 {
-    let body = writer::skip(at, 6);
-    let end = shape_body(text, table, i, code, sheet, body);
-    writer::close(sheet, at, body, end, 6);
-    end
+    writer::record(
+        sheet,
+        at,
+        6,
+        |sheet, body| shape_body(text, table, i, code, sheet, body),
+    )
 }
 
 // The code of a geometry's type.
@@ -279,12 +271,9 @@ fn each_geometry(text: &[u8], table: &[u32], i: usize, sheet: &mut [u8], at: usi
     requires { Holds (Elements GeometryFits) text.now table.now i }
     ensures { Wrote (each geometry_bytes) text.now table.now i sheet.old sheet.new at result }
 {
-    let n = arrays::elements_end(text, table, i);
     let mut o = at;
-    let mut k = i + 3;
-    while k < n {
+    for k in nodes::elements(text, table, i) {
         o = geometry(text, table, k, sheet, o);
-        k = nodes::next(table, k);
     }
     o
 }
@@ -294,9 +283,8 @@ pub fn geometries_in(text: &[u8], table: &[u32], i: usize, sheet: &mut [u8], at:
     requires { Holds (Perhaps (Elements GeometryFits) "geometry") text.now table.now i }
     ensures { Wrote geometries_member text.now table.now i sheet.old sheet.new at result }
 {
-    let found = nodes::member(text, table, i, b"geometry");
-    let Found::At(k) = found else {
-        return at;
-    };
-    each_geometry(text, table, k, sheet, at)
+    match nodes::member(text, table, i, b"geometry") {
+        Some(k) => each_geometry(text, table, k, sheet, at),
+        None => at,
+    }
 }

@@ -9,7 +9,7 @@ use Rattle.json_text.specs.Tree.{Json, Items, ◌▸◌, ◌◂◌, Members, mem
 use Rattle.json_text.specs.Tree as tree
 use Rattle.json_text.specs.Machine.{Frame, array, object, Role, value, Mode, go, dead, reads, bad, step, ending, is_blank, is_hex, is_escape, closed, numeral, literal, hexed}
 use Rattle.json_text.specs.Machine.Role.{name}
-use Rattle.json_text.specs.Machine.Mode.{want, first, name0, name1, colon, got, chars, esc, hex, neg, nought, int, dot, frac, mant, exp, sign, lit}
+use Rattle.json_text.specs.Machine.Mode.{want, first, name0, name1, colon, got, chars, esc, hex, neg, nought, int, dot, mant, exp, sign, lit}
 use Rattle.json_text.specs.Grammar.{At, Text, name_at}
 use Rattle.json_text.specs.Grammar as g
 use Rattle.json_text.specs.Steps as st

@@ -1,39 +1,35 @@
--- The rule of the bits of a byte, by a test that antt computes at each byte and each bit.
-use Prim.Native.Nat.{ℕ, ◌+◌, ◌*◌, ◌^◌, ◌%◌, ◌<◌}
-use mathlib.Core.Path.{◌≡◌, refl}
-use mathlib.Core.Bool.{Bool, true, false, ◌&&◌, ◌||◌}
-use lib.Dec.{eqb, ltb}
-use borrow.Author.Tests.{ltb-true, eqb-true}
-use Rattle.utf8.specs.Laws.{both_left, both_right}
-use Rattle.utf8.specs.Finite.{all_from, each_below, agree, agree-equal}
-use Rattle.grid.specs.Grid.{bit}
+-- A bit that is set in a byte.
+use Rattle.std.proofs.Common.{ℕ, ◌+◌, ◌*◌, ◌%◌, ◌^◌, ◌<◌, ◌≡◌, Bool, true, false, cond, ◌||◌, refl, ap, arith, eq-eqb, eqb-true, w8}
+use Rattle.std.proofs.lemmas.Bool.{eqb-false}
+use Rattle.std.specs.Prelude.{eqb}
+use Rattle.std.specs.Int.{bit_at}
+use Rattle.std.specs.Int.Bits.{bit_or, or_add_and}
+use Rattle.std.proofs.lemmas.Nat.{one_shl}
+use Rattle.std.proofs.lemmas.Nat.Bits.{and_pow, bit_at-lt, bit_at_set_same, bit_at_set_other}
+use Rattle.grid.specs.Grid.{bit, with_bit}
 
--- is a byte whose bit k is not set a byte with that bit besides if 2 ^ k is added?
-abbrev adds : Bool → ℕ → ℕ → Bool
-adds true w k = true
-adds false w k = ltb (w + 2 ^ k) 256 && all_from (λ l. agree (bit (w + 2 ^ k) l) (eqb l k || bit w l)) 0 8
+module _ (w k : ℕ) (h : k < 8) where
+  sum : bit_or w (1 * 2 ^ k % 256) + bit_at w k * 2 ^ k ≡ w + 2 ^ k
+  sum = rw (one_shl k 8 h, ← and_pow w k) (or_add_and w (2 ^ k))
 
-unfoldable tested : Bool
-unfolding bit
-tested = all_from (λ w. all_from (λ k. adds (bit w k) w k) 0 8) 0 256
+  set-if : (b : Bool) → eqb (bit_at w k) 1 ≡ b → bit_or w (1 * 2 ^ k % 256) ≡ cond b w (w + 2 ^ k)
+  set-if true e = let z = eqb-true (bit_at w k) 1 e in let y = rw z at sum in omega (arith, y)
+  set-if false e =
+      let n = eqb-false (bit_at w k) 1 e in
+      let z : bit_at w k ≡ 0 = omega (arith, bit_at-lt w k) in
+      let y = rw z at sum in
+      omega (arith, y)
 
-all_tested : tested ≡ true
-unfolding tested
-all_tested = refl
+  -- the byte has the bit besides
+  pub set-is : bit_or w (1 * 2 ^ k % 256) ≡ with_bit w k
+  unfolding bit with_bit
+  set-is = set-if (eqb (bit_at w k) 1) refl
 
-module _ (w k : ℕ) (b : w < 256) (h : k < 8) (e : bit w k ≡ false) where
-  added : adds false w k ≡ true
-  unfolding tested
-  added = rw e at (each_below (λ k. adds (bit w k) w k) 8 k (each_below (λ w. all_from (λ k. adds (bit w k) w k) 0 8) 256 w all_tested b) h)
+  read-if : (l : ℕ) (b : Bool) → eqb l k ≡ b → bit (bit_or w (1 * 2 ^ k % 256)) l ≡ (b || bit w l)
+  unfolding bit
+  read-if l true e = rw (eqb-true l k e) (eq-eqb _ _ (bit_at_set_same w8 w k h))
+  read-if l false e = ap (λ n. eqb n 1) (bit_at_set_other w8 w k h l (eqb-false l k e))
 
-  -- a byte with one bit more is a byte
-  pub added-fits : w + 2 ^ k < 256
-  added-fits = ltb-true (w + 2 ^ k) 256 (both_left (ltb (w + 2 ^ k) 256) _ added)
-
-  -- and has the others as they were
-  pub added-bit : (l : ℕ) → l < 8 → bit (w + 2 ^ k) l ≡ (eqb l k || bit w l)
-  added-bit l m = agree-equal _ _ (each_below (λ l. agree (bit (w + 2 ^ k) l) (eqb l k || bit w l)) 8 l (both_right (ltb (w + 2 ^ k) 256) _ added) m)
-
--- a bit that is shifted within a byte is a power of two
-pub powers : (k : ℕ) → k < 8 → (1 * 2 ^ k) % 2 ^ 8 ≡ 2 ^ k
-powers k h = eqb-true _ _ (each_below (λ k. eqb ((1 * 2 ^ k) % 2 ^ 8) (2 ^ k)) 8 k refl h)
+  -- and the others as they were
+  pub set-read : (l : ℕ) → bit (bit_or w (1 * 2 ^ k % 256)) l ≡ (eqb l k || bit w l)
+  set-read l = read-if l (eqb l k) refl

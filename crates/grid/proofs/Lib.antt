@@ -1,4 +1,3 @@
--- What the proofs of several functions use.
+-- What the proof of `put` uses.
 mod Bits
 mod Sets
-mod Rules

@@ -4,14 +4,6 @@
 ghost use Rattle.std.specs.Prelude.{◌+◌, ◌*◌, ◌^◌, ◌<◌, ◌≤◌, ◌≡◌, length};
 ghost use Rattle.grid.specs.Grid.{holds, Puts};
 
-// The byte whose only bit is bit k.
-fn power(k: usize) -> u8
-    requires { k < 8 }
-    ensures { result ≡ 2 ^ k }
-{
-    1u8 << k
-}
-
 // Is the pair in the set?
 pub fn has(grid: &[u8], row: usize, column: usize) -> bool
     requires { (column < 1024) × (row * 128 + 128 ≤ length grid.now) }
@@ -25,9 +17,5 @@ pub fn put(grid: &mut [u8], row: usize, column: usize)
     requires { (column < 1024) × (row * 128 + 128 ≤ length grid.old) }
     ensures { Puts grid.old grid.new row column }
 {
-    if has(grid, row, column) {
-        return;
-    }
-    let at = row * 128 + column / 8;
-    grid[at] += power(column % 8);
+    grid[row * 128 + column / 8] |= 1 << (column % 8);
 }

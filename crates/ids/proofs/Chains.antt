@@ -1,5 +1,5 @@
 -- Chains of the IDs of city objects: one object more, and following one.
-use Prim.Native.Nat.{ℕ, zero, suc, ◌+◌, ◌-◌, ◌%◌, ◌≤◌, ◌<◌}
+use Prim.Native.Nat.{ℕ, zero, suc, ◌+◌, ◌-◌, ◌≤◌, ◌<◌}
 use native.Mathlib.Omega.{arith}
 use native.Mathlib.Numerals.{add-one}
 use mathlib.Core.Path.{◌≡◌, refl, sym, ap, ◌∙◌}
@@ -16,7 +16,9 @@ use Rattle.everywhere.specs.Chains.{chain_of}
 use Rattle.everywhere.specs.Laws.{other_text}
 use Rattle.everywhere.specs.Says.{text_at}
 use Rattle.model.specs.Model.{object_number}
-use Rattle.ids.specs.Says.{TextNode, Offsets, Objects, names_of, Numbers, head_from, ChainsFrom, Chains, Fills, Puts}
+use Rattle.nodes.specs.Says.{Found}
+use Rattle.std.specs.Prelude.{Some, None}
+use Rattle.ids.specs.Says.{TextNode, Offsets, Objects, names_of, Numbers, word_of, head_from, ChainsFrom, Chains, Fills, Puts}
 use Rattle.ids.proofs.Rules.{ids, name-text, nobody, object-text}
 
 -- ---- the names of the objects
@@ -185,77 +187,93 @@ record Trail (us : List (List ℕ)) (w : List ℕ) (e : ℕ) : Type 0 where
 trail-lead : {us : List (List ℕ)} {w : List ℕ} {e : ℕ} (s : Trail us w e) → (e ≡ 0 → ⊥) → Lead us w s.from e
 trail-lead {us} {w} {e} s z = lead us w (length us - s.from) s.from e (omega (arith, s.within)) s.is z
 
--- A search for the object with the text at the node i has come to the object of number e - 1, or to the end of its chain
-pub record Trailing (x t offsets heads nexts : List ℕ) (i e : ℕ) : Type 0 where
+-- A search for the object with the text at the node i has come to the object that is left, or to the end of its chain
+pub record Trailing (x t offsets heads nexts : List ℕ) (i : ℕ) (left : Found) : Type 0 where
   pub objects : Objects x t offsets
   pub chains : Chains x t offsets heads nexts
-  left : (ms : List Member) → Offsets x t ms offsets → Trail (names_of ms) (text_at x t i) e
+  onward : (ms : List Member) → Offsets x t ms offsets → Trail (names_of ms) (text_at x t i) (word_of left)
+
+-- how many objects it may come to yet
+abbrev pub to_go : Found → ℕ
+to_go None = 0
+to_go (Some k) = 1024 - k
 
 module _ {x t offsets heads nexts : List ℕ} {i : ℕ} where
-  pub trail-begin : {c e : ℕ} → Objects x t offsets → Chains x t offsets heads nexts → c ≡ chain_of (text_at x t i) → c < 4096 → e ≡ get_or heads c 0 → Trailing x t offsets heads nexts i e
-  trail-begin o s q l h = record { objects = o; chains = s; left = λ ms d. record { from = 0; within = omega arith; is = rw (← q) (h ∙ (s.is ms d).head _ l); skips = omega arith } }
+  pub trail-begin : {c : ℕ} {left : Found} → Objects x t offsets → Chains x t offsets heads nexts → c ≡ chain_of (text_at x t i) → c < 4096
+      → word_of left ≡ get_or heads c 0 → Trailing x t offsets heads nexts i left
+  trail-begin o s q l h = record {
+    objects = o;
+    chains = s;
+    onward = λ ms d. record { from = 0; within = omega arith; is = rw (← q) (h ∙ (s.is ms d).head _ l); skips = omega arith };
+  }
 
-  module _ {e : ℕ} (s : Trailing x t offsets heads nexts i e) where
-    module _ (z : e ≡ 0 → ⊥) where
-      pub trail-inside : e - 1 < length offsets
-      trail-inside = let o = s.objects.stand in let r = trail-lead (s.left _ o) z in omega (arith, r.is, r.inside, names-all o)
+  module _ {left : Found} {k : ℕ} (s : Trailing x t offsets heads nexts i left) (e : left ≡ Some k) where
+    word-is : word_of left ≡ k + 1
+    word-is = ap word_of e
 
-      pub trail-few : e - 1 < 1024
-      trail-few = omega (arith, trail-inside, s.objects.stand.few)
+    here : {ms : List Member} (o : Offsets x t ms offsets) → Lead (names_of ms) (text_at x t i) (s.onward ms o).from (word_of left)
+    here {ms} o = trail-lead (s.onward ms o) (λ z. omega (arith, word-is, z))
 
-      pub trail-text : TextNode x t (get_or offsets (e - 1) 0)
-      trail-text = object-text s.objects trail-inside
+    pub trail-inside : k < length offsets
+    trail-inside = let o = s.objects.stand in let r = here o in omega (arith, r.is, word-is, r.inside, names-all o)
 
-      -- the next one
-      on : {m : ℕ} {ms : List Member} → Offsets x t ms offsets → m ≡ get_or nexts (e - 1) 0 → m ≡ head_from (chain_of (text_at x t i)) (e - 1 + 1) (drop (e - 1 + 1) (names_of ms))
-      on {m} {ms} o q =
-          let r = trail-lead (s.left ms o) z in
-          let y : r.at ≡ e - 1 = omega (arith, r.is) in
-          let g : chain_of (get_or (names_of ms) (e - 1) []) ≡ chain_of (text_at x t i) = rw (← y) r.goes in
-          rw (← g) (q ∙ (s.chains.is ms o).next (e - 1) (omega arith) (omega (arith, r.inside)))
+    pub trail-few : k < 1024
+    trail-few = omega (arith, trail-inside, s.objects.stand.few)
 
-      module _ {b : Bool} (h : b ≡ same (text_at x t (get_or offsets (e - 1) 0)) (text_at x t i)) where
-        told : (ms : List Member) → Offsets x t ms offsets → object_number (names_of ms) (text_at x t i) ≡ e - 1 + cond b 0 (suc (object_number (drop (e - 1 + 1) (names_of ms)) (text_at x t i)))
-        told ms o =
-            let u = s.left ms o in
-            let r = trail-lead u z in
-            let y : r.at ≡ e - 1 = omega (arith, r.is) in
-            let w : object_number (names_of ms) (text_at x t i) ≡ e - 1 + object_number (drop (e - 1) (names_of ms)) (text_at x t i) = sym u.skips ∙ rw y at r.skips in
-            let n : b ≡ same (get_or (names_of ms) (e - 1) []) (text_at x t i) = rw (name-is o trail-inside) h in
-            rw n (w ∙ ap (λ l. e - 1 + l) (number-cons (names_of ms) (e - 1) (omega (arith, r.inside)) (text_at x t i)))
+    pub trail-text : TextNode x t (get_or offsets k 0)
+    trail-text = object-text s.objects trail-inside
 
-        pub trail-found : b ≡ true → Numbers x t offsets i (e - 1)
-        trail-found f = record { is = λ ms o. omega (arith, rw f at (told ms o)) }
+    -- the word of the next one
+    on : {m : ℕ} {ms : List Member} → Offsets x t ms offsets → m ≡ get_or nexts k 0 → m ≡ head_from (chain_of (text_at x t i)) (k + 1) (drop (k + 1) (names_of ms))
+    on {m} {ms} o q =
+        let r = here o in
+        let y : r.at ≡ k = omega (arith, r.is, word-is) in
+        let g : chain_of (get_or (names_of ms) k []) ≡ chain_of (text_at x t i) = rw (← y) r.goes in
+        rw (← g) (q ∙ (s.chains.is ms o).next k (omega arith) (omega (arith, r.inside, y)))
 
-        pub trail-again : {m : ℕ} → b ≡ false → m ≡ get_or nexts (e - 1) 0 → Trailing x t offsets heads nexts i m
-        trail-again f q = record {
-          objects = s.objects;
-          chains = s.chains;
-          left = λ ms o. record { from = e - 1 + 1; within = omega (arith, trail-inside, names-all o); is = on o q; skips = omega (arith, rw f at (told ms o)) };
-        }
+    module _ {b : Bool} (h : b ≡ same (text_at x t (get_or offsets k 0)) (text_at x t i)) where
+      told : (ms : List Member) → Offsets x t ms offsets → object_number (names_of ms) (text_at x t i) ≡ k + cond b 0 (suc (object_number (drop (k + 1) (names_of ms)) (text_at x t i)))
+      told ms o =
+          let u = s.onward ms o in
+          let r = here o in
+          let y : r.at ≡ k = omega (arith, r.is, word-is) in
+          let w : object_number (names_of ms) (text_at x t i) ≡ k + object_number (drop k (names_of ms)) (text_at x t i) = sym u.skips ∙ rw y at r.skips in
+          let n : b ≡ same (get_or (names_of ms) k []) (text_at x t i) = rw (name-is o trail-inside) h in
+          rw n (w ∙ ap (λ l. k + l) (number-cons (names_of ms) k (omega (arith, r.inside, y)) (text_at x t i)))
 
-    pub trail-done : e ≡ 0 → Numbers x t offsets i (length offsets)
-    trail-done h = record {
-      is = λ ms o.
-          let u = s.left ms o in
-          let us = names_of ms in
-          let n : u.from + object_number (drop u.from us) (text_at x t i) ≡ length us =
-          lead-none us (text_at x t i) (length us - u.from) u.from (omega (arith, u.within)) (sym u.is ∙ h)
-          in
-          sym (names-all o) ∙ (sym n ∙ u.skips);
-    }
+      pub trail-found : b ≡ true → Numbers x t offsets i (Some k)
+      trail-found f = record { is = λ ms o. omega (arith, rw f at (told ms o)); low = λ j q. let z : k ≡ j = cc in omega (arith, trail-inside, z) }
 
--- the next of a chain is a later one, or none
-pub trail-less : {x t offsets heads nexts : List ℕ} {i e m : ℕ} → Trailing x t offsets heads nexts i e → (e ≡ 0 → ⊥) → m ≡ get_or nexts (e - 1) 0 → (1025 - m) % 1025 < (1025 - e) % 1025
-trail-less {x} {t} {i = i} {e = e} {m = m} s z q = if (eqb m 0) refl
-  where
-    if : (b : Bool) → eqb m 0 ≡ b → (1025 - m) % 1025 < (1025 - e) % 1025
-    if true f = let h = eqb-true m 0 f in omega (arith, h, z, trail-few s z)
-    if false f =
-        let o = s.objects.stand in
-        let us = names_of s.objects.members in
-        let l = lead us (text_at x t i) (length us - (e - 1 + 1)) (e - 1 + 1) m (omega (arith, trail-inside s z, names-all o)) (on s z o q) (eqb-false m 0 f) in
-        omega (arith, z, l.onward, l.is, l.inside, names-all o, o.few)
+      pub trail-again : {next : Found} → b ≡ false → word_of next ≡ get_or nexts k 0 → Trailing x t offsets heads nexts i next
+      trail-again f q = record {
+        objects = s.objects;
+        chains = s.chains;
+        onward = λ ms o. record { from = k + 1; within = omega (arith, trail-inside, names-all o); is = on o q; skips = omega (arith, rw f at (told ms o)) };
+      }
+
+    -- the next of a chain is a later one, or none
+    pub trail-less : (next : Found) → word_of next ≡ get_or nexts k 0 → to_go next < to_go left
+    trail-less next q = rw e (by next q)
+      where
+        by : (n : Found) → word_of n ≡ get_or nexts k 0 → to_go n < 1024 - k
+        by None q = omega (arith, trail-few)
+        by (Some m) q =
+            let o = s.objects.stand in
+            let us = names_of s.objects.members in
+            let l = lead us (text_at x t i) (length us - (k + 1)) (k + 1) (m + 1) (omega (arith, trail-inside, names-all o)) (on o q) (λ z. omega (arith, z)) in
+            omega (arith, l.onward, l.is, l.inside, names-all o, o.few)
+
+  pub trail-done : {left : Found} → Trailing x t offsets heads nexts i left → left ≡ None → Numbers x t offsets i None
+  trail-done s h = record {
+    is = λ ms o.
+        let u = s.onward ms o in
+        let us = names_of ms in
+        let n : u.from + object_number (drop u.from us) (text_at x t i) ≡ length us =
+        lead-none us (text_at x t i) (length us - u.from) u.from (omega (arith, u.within)) (sym u.is ∙ ap word_of h)
+        in
+        sym (names-all o) ∙ (sym n ∙ u.skips);
+    low = λ k q. absurd (cc);
+  }
 
 pub ruleset chains = (
   ids,
@@ -268,6 +286,7 @@ pub ruleset chains = (
   filling-done,
   trail-begin,
   trail-few,
+  trail-inside,
   trail-text,
   trail-less,
   trail-found,

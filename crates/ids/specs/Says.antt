@@ -1,11 +1,13 @@
 -- What the functions over the IDs of city objects ask and tell.
-use Rattle.std.specs.Prelude.{◌≡◌, cond, List, [], ◌∷◌, map, ℕ, ◌+◌, ◌<◌, ◌≤◌, length, get_or, set, drop, eqb}
+use Rattle.std.specs.Prelude.{◌≡◌, cond, List, [], ◌∷◌, map, ℕ, ◌+◌, ◌<◌, ◌≤◌, length, get_or, set, drop, eqb, Some, None, unwrap_or}
 use Rattle.nodes.specs.Access.{Member, name_of}
+use Rattle.nodes.specs.Says.{Found}
 use Rattle.everywhere.specs.Chains.{chain_of}
 use Rattle.nodes.specs.Laws.{StringAt}
 use Rattle.everywhere.specs.Says.{text_at}
 use Rattle.fields.specs.Says.{MemberAt}
 use Rattle.model.specs.Model.{object_number}
+use Rattle.ids.specs.declared.Directory.{Directory}
 
 -- a string or a name stands at the node i
 pub record TextNode (x t : List ℕ) (i : ℕ) : Type 0 where
@@ -33,9 +35,15 @@ pub record MemberNode (x t : List ℕ) (i : ℕ) : Type 0 where
 unfoldable pub names_of : List Member → List (List ℕ)
 names_of ms = map name_of ms
 
--- r is the number of the object whose ID is the text at the node i
-pub record Numbers (x t offsets : List ℕ) (i r : ℕ) : Type 0 where
-  pub is : (ms : List Member) → Offsets x t ms offsets → r ≡ object_number (names_of ms) (text_at x t i)
+-- r is the number of the object whose ID is the text at the node i; none stands for the count of the objects, which no object has
+pub record Numbers (x t offsets : List ℕ) (i : ℕ) (r : Found) : Type 0 where
+  pub is : (ms : List Member) → Offsets x t ms offsets → unwrap_or r (length offsets) ≡ object_number (names_of ms) (text_at x t i)
+  pub low : (k : ℕ) → r ≡ Some k → k < length offsets
+
+-- the word of a chain for an object's number, or for none
+abbrev pub word_of : Found → ℕ
+word_of None = 0
+word_of (Some k) = k + 1
 
 -- one more than the number of the first of the texts us, which are numbered from k on, that goes to the chain c; 0 if none does
 unfoldable pub head_from : ℕ → ℕ → List (List ℕ) → ℕ
@@ -52,6 +60,11 @@ pub record Chains (x t offsets heads nexts : List ℕ) : Type 0 where
   pub heads-room : length heads ≡ 4096
   pub nexts-room : length nexts ≡ 1024
   pub is : (ms : List Member) → Offsets x t ms offsets → ChainsFrom (names_of ms) heads nexts 0
+
+-- the objects, with the chains of their IDs
+pub record Numbered (d : Directory) : Type 0 where
+  pub objects : Objects d.text.now d.table.now d.offsets.now
+  pub chains : Chains d.text.now d.table.now d.offsets.now d.chains.now.heads d.chains.now.nexts
 
 -- the chains were filled, and nexts, which was nexts₀, is as before past the objects
 pub record Fills (x t offsets nexts₀ heads nexts : List ℕ) : Type 0 where

@@ -1,10 +1,10 @@
 -- The machine's moves on a text at an offset.
-use Rattle.std.proofs.Common.{◌≡◌, ℕ, ◌+◌, ◌<◌, ◌≤◌, Bool, true, T, List, [], ◌∷◌, length, get_or, sym, refl, ◌∙◌, add-one, arith, drop_of_length-le, drop-cons}
+use Rattle.std.proofs.Common.{◌≡◌, ℕ, ◌+◌, ◌<◌, ◌≤◌, Bool, true, false, T, List, [], ◌∷◌, length, get_or, sym, refl, ◌∙◌, add-one, arith, drop_of_length-le, drop-cons}
 use native.Mathlib.Decide.{dec_lt}
 use Rattle.utf8.specs.Ascii.{is_digit}
 use Rattle.json_text.specs.Machine.{Frame, Mode, go, dead, deep, bad, too_deep, run, step, finish, ending, is_blank, got_step}
 use Rattle.json_text.specs.Machine.Mode.{want, first, name0, name1, colon, got, chars, esc, hex, neg, nought, int, dot, frac, mant, exp, sign, exps, lit}
-use Rattle.json_text.specs.Says.{from, blanks, digital, Stays}
+use Rattle.json_text.specs.Says.{from, blanks, digital, Stays, Skips}
 
 module _ (text : List ℕ) (m : Mode) (ks : List Frame) (at : ℕ) where
   -- the end of the text
@@ -103,3 +103,10 @@ stays-none ok text at h = record { low = omega arith; high = h; same = λ m o ks
 pub stays-more : (ok : Mode → Bool) (test : ℕ → Bool) → ((text : List ℕ) (n : ℕ) (m : Mode) → T (ok m) → (ks : List Frame) (b : ℕ) → true ≡ test b → step 32 text m ks n b ≡ go m ks)
     → (text : List ℕ) (at i : ℕ) → Stays ok text at i → i < length text → true ≡ test (get_or text i 0) → Stays ok text at (i + 1)
 stays-more ok test law text at i h l e = record { low = omega arith; high = omega arith; same = λ m o ks. h.same m o ks ∙ moves text m ks i m ks l (law text i m o ks (get_or text i 0) e) }
+
+-- and the byte that ends them, or the text's end
+pub stops-at : (ok : Mode → Bool) (test : ℕ → Bool) (text : List ℕ) (at r : ℕ) → Stays ok text at r → false ≡ test (get_or text r 0) → Skips ok test text at r
+stops-at ok test text at r h e = record { stays = h; stop = λ l. e }
+
+pub stops-out : (ok : Mode → Bool) (test : ℕ → Bool) (text : List ℕ) (at r : ℕ) → Stays ok text at r → length text ≤ r → Skips ok test text at r
+stops-out ok test text at r h e = record { stays = h; stop = λ l. absurd (omega arith) }

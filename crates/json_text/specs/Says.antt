@@ -1,14 +1,22 @@
 -- What the functions say of the machine, and of the table.
-use Rattle.std.specs.Prelude.{◌≡◌, ℕ, zero, suc, ◌+◌, ◌/◌, ◌%◌, ◌<◌, ◌≤◌, Bool, true, false, T, List, [], ◌∷◌, length, drop, ◌≢◌, slice_index, slice_index_or}
-use Rattle.std.proofs.Math.Option.{Option}
+use Rattle.std.specs.Prelude.{◌≡◌, ℕ, zero, suc, ◌+◌, ◌/◌, ◌%◌, ◌<◌, ◌≤◌, Bool, true, false, T, List, [], ◌∷◌, length, drop, slice_index, slice_index_or, Option, IfSome, Result, Ok, Err}
+use Rattle.std.proofs.Math.Option as maybe
 use Rattle.std.specs.Int.Count.{count_trailing_zeros}
 use Rattle.utf8.specs.Ascii.{ascii}
 use Rattle.json_text.specs.Tree.{Json}
 use Rattle.json_text.specs.Machine.{Frame, Role, Mode, Outcome, bad, run, is_blank, closed, numeral, literal}
 use Rattle.json_text.specs.Machine.Mode.{want, first, name0, name1, colon, got, chars, esc, hex, neg, nought, int, dot, frac, mant, exp, sign, exps, lit}
 use Rattle.json_text.specs.Table.{size, Sub}
-use Rattle.json_text.specs.declared.Scan.{Scan}
-use Rattle.json_text.specs.declared.Scan.TheVariants as scan
+use Rattle.json_text.specs.declared.BadByte.{BadByte}
+
+-- what a part of a text is found to be: it ends before an offset, or no JSON text has the byte at an offset
+abbrev pub Scan : Type 0
+Scan = Result ℕ BadByte
+
+-- what `byte` tells: the byte that stands at the offset, or that none does
+abbrev pub Found : List ℕ → ℕ → Scan → Type 0
+Found text at (Ok b) = (at < length text) × (slice_index text at ≡ b)
+Found text at (Err e) = (length text ≤ at) × (e.at ≡ at)
 
 -- the machine on the text from an offset on
 unfoldable pub from : List ℕ → Mode → List Frame → ℕ → Outcome
@@ -16,13 +24,13 @@ from text m ks at = run 32 text m ks at (drop at text)
 
 -- what the machine makes of the text after a part that was found to be r: it goes on in the mode that m gives for the part's end
 abbrev pub land : List ℕ → (ℕ → Mode) → List Frame → Scan → Outcome
-land text m ks (scan.End e) = from text (m e) ks e
-land text m ks (scan.Bad n) = bad n
+land text m ks (Ok e) = from text (m e) ks e
+land text m ks (Err b) = bad b.at
 
 -- the end that was found, if any, lies from lo to hi
 abbrev pub Within : ℕ → ℕ → Scan → Type 0
-Within lo hi (scan.End e) = (lo ≤ e) × (e ≤ hi)
-Within lo hi (scan.Bad n) = Unit
+Within lo hi (Ok e) = (lo ≤ e) × (e ≤ hi)
+Within lo hi (Err b) = Unit
 
 -- the modes that white space does not change
 abbrev pub blanks : Mode → Bool
@@ -140,7 +148,7 @@ pub record Marked (x m : ℕ) : Type 0 where
 -- what `plain_end` tells: a string that is being read at the offset at is still being read at r
 pub record Passes (text : List ℕ) (at r : ℕ) : Type 0 where
   pub high : r ≤ length text
-  pub reads : Reads text chars_of (to chars_of) at (scan.End r)
+  pub reads : Reads text chars_of (to chars_of) at (Ok r)
 
 -- the bytes that `is_type` looks for: a name, its colon, and the quote of a string
 abbrev pub type_start : List ℕ
@@ -154,7 +162,7 @@ pub record Typed (text : List ℕ) (at : ℕ) (r : Bool) : Type 0 where
 -- a word that is being read: where it began, and what it stands for
 pub record WordAt : Type 0 where
   pub begun : ℕ
-  pub meant : Option Bool
+  pub meant : maybe.Option Bool
 
 -- the mode where the bytes ws of a word are still to come at e, and after the word where none are
 unfoldable pub literal_of : List ℕ → WordAt → ℕ → Mode
@@ -190,9 +198,9 @@ pub record Leaf (x : List ℕ) (p e : ℕ) : Type 0 where
 
 -- what `scalar` tells of a value at p that opens no level
 unfoldable pub Scalar : List ℕ → ℕ → Scan → Type 0
-Scalar x p (scan.End e) = Leaf x p e
-Scalar x p (scan.Bad q) = (ks : List Frame) → from x want ks p ≡ bad q
+Scalar x p (Ok e) = Leaf x p e
+Scalar x p (Err b) = (ks : List Frame) → from x want ks p ≡ bad b.at
 
 -- what `digits_end` tells: where an end was found, a value that holds no other stands up to it
-pub record Digits (x : List ℕ) (p e : ℕ) : Type 0 where
-  pub leaf : (e ≢ p) → Leaf x p e
+pub record Digits (x : List ℕ) (p : ℕ) (r : Option ℕ) : Type 0 where
+  pub leaf : IfSome r (λ e. Leaf x p e)

@@ -1,11 +1,11 @@
 -- What judge answers.
+use Rattle.std.specs.Prelude.{ℕ, Result, Ok, Err}
 use Rattle.verdict.specs.Verdict as verdict
 use Rattle.refusals.specs.Refusals.{rule_number, refusal}
-use Rattle.judging.specs.declared.Verdict.{Verdict}
-use Rattle.judging.specs.declared.Verdict.TheVariants.{Accepted, Refused}
+use Rattle.refusals.specs.declared.Refusal.{Refusal}
 
 -- an answer as the verdict that it is
-unfoldable pub verdict_of : Verdict → verdict.Verdict
+unfoldable pub verdict_of : Result ℕ Refusal → verdict.Verdict
 unfolding rule_number
-verdict_of (Accepted n) = verdict.accepted n
-verdict_of (Refused f) = refusal f
+verdict_of (Ok n) = verdict.accepted n
+verdict_of (Err f) = refusal f

@@ -1,167 +1,77 @@
 // Judges a CityJSON text by the rules of docs/RULES.md.
 #![tactic(auto)]
 
-ghost use Rattle.std.specs.Prelude.{◌≤◌, ◌≡◌, length};
+ghost use Rattle.std.specs.Prelude.{◌+◌, ◌*◌, ◌≤◌, ◌≡◌, length};
 ghost use Rattle.verdict.specs.Verdict.{parsed, verdict};
 ghost use Rattle.json_text.specs.Machine.{read};
-ghost use Rattle.examining.specs.Examining.{Room, Stands, RowRoom};
+ghost use Rattle.examining.specs.Examining.{Stands, RowRoom};
 ghost use Rattle.judging.specs.Judging.{verdict_of};
 
-use examining::{Opened, Screened};
 use nodes::NO_FAULT;
 use refusals::Refusal;
 
-// What judge answers: the number of city objects, or a refusal.
-#[derive(Drop)]
-pub enum Verdict {
-    Accepted(usize),
-    Refused(Refusal),
-}
-
 // Rules 5 to 17 over the node table of a text, whose first n words are its tree's.
+#[tactic(auto, unfolding(crate::specs::Judging::verdict_of))]
 fn judge_table(
     text: &[u8],
     table: &[u32],
     n: usize,
     children: &mut [u16],
     parents: &mut [u16],
-) -> Verdict
+) -> Result<usize, Refusal>
     requires { (Stands text.now table.now n) × (RowRoom text.now table.now children.old) × (RowRoom text.now table.now parents.old) }
     ensures { verdict_of result ≡ parsed (read text.now) }
 {
     let walked = examining::examine(text, table, n, children, parents);
-    let least = walked.least;
-    if least < NO_FAULT {
-        return Verdict::Refused(refusals::refuse_fault(table, n, least));
+    if walked.least < NO_FAULT {
+        return Err(examining::refuse(text, table, n, &walked));
     }
-    let index = walked.index;
-    Verdict::Accepted(index.count)
+    Ok(walked.index.count)
 }
 
-// Rules 5 to 17 over the node table, with rows for the links of a tree of at most 6,195 words. Small rows are cleared sooner.
-fn judge_small(text: &[u8], table: &[u32], n: usize) -> Verdict
-    requires { (Stands text.now table.now n) × (n ≤ 6195) }
+// The same with rows of N numbers for the links, which do for a tree of at most 3 N words. Small rows are cleared sooner.
+#[inline(never)]
+fn judge_rows<const N: usize>(text: &[u8], table: &[u32], n: usize) -> Result<usize, Refusal>
+    requires { (Stands text.now table.now n) × (n ≤ 3 * N) × (N ≤ 65535) }
     ensures { verdict_of result ≡ parsed (read text.now) }
 {
-    let mut below: [u16; 2065] = [0; 2065];
-    let mut above: [u16; 2065] = [0; 2065];
-    let children: &mut [u16] = &mut below;
-    let parents: &mut [u16] = &mut above;
-    judge_table(text, table, n, children, parents)
-}
-
-// The same of at most 49,152 words.
-fn judge_middle(text: &[u8], table: &[u32], n: usize) -> Verdict
-    requires { (Stands text.now table.now n) × (n ≤ 49152) }
-    ensures { verdict_of result ≡ parsed (read text.now) }
-{
-    let mut below: [u16; 16384] = [0; 16384];
-    let mut above: [u16; 16384] = [0; 16384];
-    let children: &mut [u16] = &mut below;
-    let parents: &mut [u16] = &mut above;
-    judge_table(text, table, n, children, parents)
-}
-
-// The same of at most 98,352 words.
-fn judge_large(text: &[u8], table: &[u32], n: usize) -> Verdict
-    requires { (Stands text.now table.now n) × (n ≤ 98352) }
-    ensures { verdict_of result ≡ parsed (read text.now) }
-{
-    let mut below: [u16; 32784] = [0; 32784];
-    let mut above: [u16; 32784] = [0; 32784];
-    let children: &mut [u16] = &mut below;
-    let parents: &mut [u16] = &mut above;
-    judge_table(text, table, n, children, parents)
+    let mut children = [0; N];
+    let mut parents = [0; N];
+    judge_table(text, table, n, &mut children, &mut parents)
 }
 
 // The same with rows of a size that suits the tree.
-fn judge_tree(text: &[u8], table: &[u32], n: usize) -> Verdict
+fn judge_tree(text: &[u8], table: &[u32], n: usize) -> Result<usize, Refusal>
     requires { (Stands text.now table.now n) × (length table.now ≤ 98352) }
     ensures { verdict_of result ≡ parsed (read text.now) }
 {
     if n <= 6195 {
-        return judge_small(text, table, n);
+        return judge_rows::<2065>(text, table, n);
     }
     if n <= 49152 {
-        return judge_middle(text, table, n);
+        return judge_rows::<16384>(text, table, n);
     }
-    judge_large(text, table, n)
+    judge_rows::<32784>(text, table, n)
 }
 
-// Rules 3 to 17 of a text, with a work table that has room for its tree.
-fn judge_in(text: &[u8], table: &mut [u32]) -> Verdict
-    requires { (Room text.now table.old) × (length table.old ≤ 98352) }
+// Rules 3 to 17 of a text, with a work table of N words, which has room for its tree. A small work table is cleared sooner.
+#[inline(never)]
+fn judge_text<const N: usize>(text: &[u8]) -> Result<usize, Refusal>
+    requires { (length text.now ≤ 65535) × (3 * length text.now + 99 ≤ 2 * N) × (N ≤ 98352) }
     ensures { verdict_of result ≡ parsed (read text.now) }
 {
-    let opened = examining::open(text, table);
-    match opened {
-        Opened::Tree(n) => judge_tree(text, table, n),
-        Opened::Refused(refusal) => Verdict::Refused(refusal),
-    }
-}
-
-// Rules 3 to 17 of a text that is not too long.
-fn judge_long(text: &[u8]) -> Verdict
-    requires { length text.now ≤ 65535 }
-    ensures { verdict_of result ≡ parsed (read text.now) }
-{
-    let mut space: [u32; 98352] = [0; 98352];
-    let table: &mut [u32] = &mut space;
-    judge_in(text, table)
-}
-
-// Rules 5 to 17 over the node table of a short text. A tree for which the small rows would not do goes the long way:
-// there is none, but the long way is a function with a frame of its own because it is called from here too.
-fn judge_short_tree(text: &[u8], table: &[u32], n: usize) -> Verdict
-    requires { Stands text.now table.now n }
-    ensures { verdict_of result ≡ parsed (read text.now) }
-{
-    if n <= 6195 {
-        return judge_small(text, table, n);
-    }
-    judge_long(text)
-}
-
-// Rules 3 to 17 of a short text, with a work table that has room for its tree.
-fn judge_short_in(text: &[u8], table: &mut [u32]) -> Verdict
-    requires { Room text.now table.old }
-    ensures { verdict_of result ≡ parsed (read text.now) }
-{
-    let opened = examining::open(text, table);
-    match opened {
-        Opened::Tree(n) => judge_short_tree(text, table, n),
-        Opened::Refused(refusal) => Verdict::Refused(refusal),
-    }
-}
-
-// Rules 3 to 17 of a text of at most 4,096 bytes. A small work table is cleared sooner.
-fn judge_short(text: &[u8]) -> Verdict
-    requires { length text.now ≤ 4096 }
-    ensures { verdict_of result ≡ parsed (read text.now) }
-{
-    let mut space: [u32; 6194] = [0; 6194];
-    let table: &mut [u32] = &mut space;
-    judge_short_in(text, table)
-}
-
-// Rules 3 to 17 of a text that is not too long, with a work table of a size that suits it.
-fn judge_json(text: &[u8]) -> Verdict
-    requires { length text.now ≤ 65535 }
-    ensures { verdict_of result ≡ parsed (read text.now) }
-{
-    if text.len() <= 4096 {
-        return judge_short(text);
-    }
-    judge_long(text)
+    let mut table = [0; N];
+    let n = examining::open(text, &mut table)?;
+    judge_tree(text, &table, n)
 }
 
 // Judges a text: the number of its city objects, or the lowest broken rule at its earliest place, with its end.
-pub fn judge(text: &[u8]) -> Verdict
+pub fn judge(text: &[u8]) -> Result<usize, Refusal>
     ensures { verdict_of result ≡ verdict text.now }
 {
-    let screened = examining::screen(text);
-    match screened {
-        Screened::Passed => judge_json(text),
-        Screened::Refused(refusal) => Verdict::Refused(refusal),
+    examining::screen(text)?;
+    if text.len() <= 4096 {
+        return judge_text::<6194>(text);
     }
+    judge_text::<98352>(text)
 }

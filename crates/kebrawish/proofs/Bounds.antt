@@ -1,6 +1,7 @@
 -- The numbers of an answer fit 32 bits, and what each function for C answers.
 use Prim.Native.Nat.{ℕ, ◌^◌, ◌≤◌, ◌<◌}
 use native.Mathlib.Omega.{arith}
+use Rattle.std.specs.Prelude.{Result, Ok, Err}
 use borrow.Author.Rules.{rules}
 use native.Mathlib.Decide.{dec_lt}
 use mathlib.Core.Path.{◌≡◌, refl, sym, ap, ◌∙◌}
@@ -18,12 +19,9 @@ use Rattle.sheets.proofs.Theorems.{sizes}
 use Rattle.refusals.specs.Refusals.{rule_number}
 use Rattle.refusals.specs.declared.Broken.{Broken}
 use Rattle.refusals.specs.declared.Refusal.{Refusal}
-use Rattle.judging.specs.declared.Verdict.{Verdict as Answer}
-use Rattle.judging.specs.declared.Verdict.TheVariants.{Accepted, Refused}
 use Rattle.judging.specs.Judging.{verdict_of}
 use Rattle.examining.specs.Least.{few-clean}
-use Rattle.laying.specs.declared.Answer as laid-answer
-use Rattle.laying.specs.declared.Answer.TheVariants as answers
+use Rattle.laying.specs.declared.Laid.{Laid}
 use Rattle.laying.specs.Laying.{answered}
 use Rattle.kebrawish.specs.declared.KebrawishAnswer.{KebrawishAnswer}
 use Rattle.kebrawish.specs.Answers.{acceptance, refusal_of, judge_answer, lay_answer}
@@ -76,71 +74,71 @@ acceptance-is l n = refl
 
 -- ---- what judge answered
 
-module _ (x : List ℕ) (a : Answer) (h : verdict_of a ≡ verdict x) where
+module _ (x : List ℕ) (a : Result ℕ Refusal) (h : verdict_of a ≡ verdict x) where
   pub judged-small : SmallVerdict (verdict_of a)
   judged-small = small-verdict x (verdict_of a) (sym h)
 
   pub judged-answer : {r : KebrawishAnswer} → r ≡ judge_answer (verdict_of a) → r ≡ judge_answer (verdict x)
   judged-answer e = e ∙ ap judge_answer h
 
-module _ {a : Answer} where
-  pub accepted-fits : {n : ℕ} → SmallVerdict (verdict_of a) → a ≡ Accepted n → n < 2 ^ 32
+module _ {a : Result ℕ Refusal} where
+  pub accepted-fits : {n : ℕ} → SmallVerdict (verdict_of a) → a ≡ Ok n → n < 2 ^ 32
   unfolding verdict_of SmallVerdict
   accepted-fits h e = rw e at h
 
-  refused-fits : {s : Refusal} → SmallVerdict (verdict_of a) → a ≡ Refused s → (s.place < 2 ^ 32) × (s.end < 2 ^ 32)
+  refused-fits : {s : Refusal} → SmallVerdict (verdict_of a) → a ≡ Err s → (s.place < 2 ^ 32) × (s.end < 2 ^ 32)
   unfolding verdict_of SmallVerdict
   refused-fits h e = rw e at h
 
-  pub refused-place : {s : Refusal} → SmallVerdict (verdict_of a) → a ≡ Refused s → s.place < 2 ^ 32
+  pub refused-place : {s : Refusal} → SmallVerdict (verdict_of a) → a ≡ Err s → s.place < 2 ^ 32
   refused-place h e = (refused-fits h e).0
 
-  pub refused_end : {s : Refusal} → SmallVerdict (verdict_of a) → a ≡ Refused s → s.end < 2 ^ 32
+  pub refused_end : {s : Refusal} → SmallVerdict (verdict_of a) → a ≡ Err s → s.end < 2 ^ 32
   refused_end h e = (refused-fits h e).1
 
-  pub accepted-answer : {r : KebrawishAnswer} {n : ℕ} → a ≡ Accepted n → r ≡ acceptance 0 n → r ≡ judge_answer (verdict_of a)
+  pub accepted-answer : {r : KebrawishAnswer} {n : ℕ} → a ≡ Ok n → r ≡ acceptance 0 n → r ≡ judge_answer (verdict_of a)
   unfolding verdict_of judge_answer
   accepted-answer e q = rw e q
 
-  pub refused-answer : {r : KebrawishAnswer} {s : Refusal} → a ≡ Refused s → r ≡ refusal_of (rule_number s.rule) s.place s.end → r ≡ judge_answer (verdict_of a)
+  pub refused-answer : {r : KebrawishAnswer} {s : Refusal} → a ≡ Err s → r ≡ refusal_of (rule_number s.rule) s.place s.end → r ≡ judge_answer (verdict_of a)
   unfolding verdict_of judge_answer
   refused-answer e q = rw e q
 
 -- ---- what lay answered
 
-module _ (x : List ℕ) (room : ℕ) (a : laid-answer.Answer) (h : answered a ≡ answer x room) where
+module _ (x : List ℕ) (room : ℕ) (a : Result Laid Refusal) (h : answered a ≡ answer x room) where
   pub laid-small : SmallAnswer (answered a)
   laid-small = small-answer x room (answered a) (sym h)
 
   pub laid-answered : {r : KebrawishAnswer} → r ≡ lay_answer (answered a) → r ≡ lay_answer (answer x room)
   laid-answered e = e ∙ ap lay_answer h
 
-module _ {a : laid-answer.Answer} where
-  laid-fits : {l n : ℕ} → SmallAnswer (answered a) → a ≡ answers.Laid l n → (l < 2 ^ 32) × (n < 2 ^ 32)
+module _ {a : Result Laid Refusal} where
+  laid-fits : {w : Laid} → SmallAnswer (answered a) → a ≡ Ok w → (w.length < 2 ^ 32) × (w.objects < 2 ^ 32)
   unfolding answered SmallAnswer
   laid-fits h e = rw e at h
 
-  pub laid-length : {l n : ℕ} → SmallAnswer (answered a) → a ≡ answers.Laid l n → l < 2 ^ 32
+  pub laid-length : {w : Laid} → SmallAnswer (answered a) → a ≡ Ok w → w.length < 2 ^ 32
   laid-length h e = (laid-fits h e).0
 
-  pub laid-objects : {l n : ℕ} → SmallAnswer (answered a) → a ≡ answers.Laid l n → n < 2 ^ 32
+  pub laid-objects : {w : Laid} → SmallAnswer (answered a) → a ≡ Ok w → w.objects < 2 ^ 32
   laid-objects h e = (laid-fits h e).1
 
-  lay-refused-fits : {s : Refusal} → SmallAnswer (answered a) → a ≡ answers.Refused s → (s.place < 2 ^ 32) × (s.end < 2 ^ 32)
+  lay-refused-fits : {s : Refusal} → SmallAnswer (answered a) → a ≡ Err s → (s.place < 2 ^ 32) × (s.end < 2 ^ 32)
   unfolding answered SmallAnswer
   lay-refused-fits h e = rw e at h
 
-  pub lay-refused-place : {s : Refusal} → SmallAnswer (answered a) → a ≡ answers.Refused s → s.place < 2 ^ 32
+  pub lay-refused-place : {s : Refusal} → SmallAnswer (answered a) → a ≡ Err s → s.place < 2 ^ 32
   lay-refused-place h e = (lay-refused-fits h e).0
 
-  pub lay-refused-end : {s : Refusal} → SmallAnswer (answered a) → a ≡ answers.Refused s → s.end < 2 ^ 32
+  pub lay-refused-end : {s : Refusal} → SmallAnswer (answered a) → a ≡ Err s → s.end < 2 ^ 32
   lay-refused-end h e = (lay-refused-fits h e).1
 
-  pub laid_as : {r : KebrawishAnswer} {l n : ℕ} → a ≡ answers.Laid l n → r ≡ acceptance l n → r ≡ lay_answer (answered a)
+  pub laid_as : {r : KebrawishAnswer} {w : Laid} → a ≡ Ok w → r ≡ acceptance w.length w.objects → r ≡ lay_answer (answered a)
   unfolding answered lay_answer
   laid_as e q = rw e q
 
-  pub lay-refused-as : {r : KebrawishAnswer} {s : Refusal} → a ≡ answers.Refused s → r ≡ refusal_of (rule_number s.rule) s.place s.end → r ≡ lay_answer (answered a)
+  pub lay-refused-as : {r : KebrawishAnswer} {s : Refusal} → a ≡ Err s → r ≡ refusal_of (rule_number s.rule) s.place s.end → r ≡ lay_answer (answered a)
   unfolding answered lay_answer
   lay-refused-as e q = rw e q
 

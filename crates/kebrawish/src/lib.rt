@@ -10,13 +10,12 @@ ghost use Rattle.sheets.specs.Laid.{answer, room_after};
 ghost use Rattle.kebrawish.specs.Answers.{acceptance, refusal_of, judge_answer, lay_answer};
 ghost use Rattle.kebrawish.specs.Says.{SmallVerdict, SmallAnswer};
 
-use judging::Verdict;
-use laying::Answer;
+use laying::Laid;
 use refusals::Refusal;
 
 // What both functions answer; the header's `kebrawish_answer`. The numbers that do not apply are 0.
 #[repr(C)]
-#[derive(Drop)]
+#[derive(Clone, Copy, PartialEq, Eq)]
 pub struct KebrawishAnswer {
     pub rule: u32,
     pub place: u32,
@@ -44,9 +43,8 @@ fn refused(refusal: Refusal) -> KebrawishAnswer
     requires { (refusal.place < 2 ^ 32) × (refusal.end < 2 ^ 32) }
     ensures { result ≡ refusal_of (rule_number refusal.rule) refusal.place refusal.end }
 {
-    let rule = refusal.rule;
     KebrawishAnswer {
-        rule: refusals::number_of(rule),
+        rule: u32::from(refusal.rule),
         place: refusal.place as u32,
         end: refusal.end as u32,
         length: 0,
@@ -55,24 +53,24 @@ fn refused(refusal: Refusal) -> KebrawishAnswer
 }
 
 // A verdict for C.
-fn judged(verdict: Verdict) -> KebrawishAnswer
+fn judged(verdict: Result<usize, Refusal>) -> KebrawishAnswer
     requires { SmallVerdict (verdict_of verdict) }
     ensures { result ≡ judge_answer (verdict_of verdict) }
 {
     match verdict {
-        Verdict::Accepted(objects) => accepted(0, objects),
-        Verdict::Refused(refusal) => refused(refusal),
+        Ok(objects) => accepted(0, objects),
+        Err(refusal) => refused(refusal),
     }
 }
 
 // An answer of lay for C.
-fn laid(answer: Answer) -> KebrawishAnswer
+fn laid(answer: Result<Laid, Refusal>) -> KebrawishAnswer
     requires { SmallAnswer (answered answer) }
     ensures { result ≡ lay_answer (answered answer) }
 {
     match answer {
-        Answer::Laid(length, objects) => accepted(length, objects),
-        Answer::Refused(refusal) => refused(refusal),
+        Ok(laid) => accepted(laid.length, laid.objects),
+        Err(refusal) => refused(refusal),
     }
 }
 
@@ -81,8 +79,7 @@ fn laid(answer: Answer) -> KebrawishAnswer
 pub extern "C" fn kebrawish_judge(text: &[u8]) -> KebrawishAnswer
     ensures { result ≡ judge_answer (verdict text.now) }
 {
-    let answer = judging::judge(text);
-    judged(answer)
+    judged(judging::judge(text))
 }
 
 // Lays out a text in the lent sheet.
@@ -91,6 +88,5 @@ pub extern "C" fn kebrawish_lay(text: &[u8], sheet: &mut [u8]) -> KebrawishAnswe
     ensures value { result ≡ lay_answer (answer text.now (length sheet.old)) }
     ensures sheet_after { sheet.new ≡ room_after text.now (length sheet.old) }
 {
-    let answer = laying::lay(text, sheet);
-    laid(answer)
+    laid(laying::lay(text, sheet))
 }

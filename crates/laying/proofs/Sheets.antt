@@ -1,9 +1,10 @@
 -- What the functions that lay use: an accepted text's table is as the writers ask, and what they wrote is the sheet.
 use Prim.Native.Nat.{ℕ, ◌+◌, ◌-◌, ◌^◌, ◌≤◌, ◌<◌}
 use native.Mathlib.Omega.{arith}
-use mathlib.Core.Path.{◌≡◌, sym, ap, ◌∙◌, subst}
+use mathlib.Core.Path.{◌≡◌, refl, sym, ap, ◌∙◌, subst}
 use mathlib.Core.List.{List, [], ◌++◌, map}
-use lib.ListN.{length, take, drop, replicate, length-replicate}
+use lib.ListN.{length, replicate, length-replicate}
+use Rattle.std.specs.Prelude.{Result, Ok, Err}
 use borrow.Author.Rules.{rules}
 use borrow.Author.Tests.{le-leb, lt-leb}
 use Rattle.json_text.specs.Tree.{Json}
@@ -11,7 +12,6 @@ use Rattle.json_text.specs.Machine.{read, reads, tree_in, tree_of}
 use Rattle.everywhere.specs.Everywhere.{rule5, rule6}
 use Rattle.nodes.specs.Faults.{fault, least, no_fault}
 use Rattle.fields.specs.Fields.{objects_of}
-use Rattle.fields.specs.declared.Index.{Index}
 use Rattle.rules.specs.Schema.{city_json}
 use Rattle.schema.specs.declared.Walked.{Walked}
 use Rattle.rules.specs.Links.{link_faults}
@@ -32,19 +32,14 @@ use Rattle.nodes.specs.Unique.{unique}
 use Rattle.records.specs.Accepted.{text-fits}
 use Rattle.records.specs.Says.{Ready, SheetWrote}
 use Rattle.refusals.specs.Refusals.{rule_number, refusal}
-use Rattle.refusals.specs.Says.{Refuses}
 use Rattle.refusals.specs.declared.Broken.TheVariants as broken
 use Rattle.refusals.specs.declared.Refusal.{Refusal}
-use Rattle.examining.specs.declared.Screened.{Screened}
-use Rattle.examining.specs.declared.Screened.TheVariants as screened
-use Rattle.examining.specs.declared.Opened.{Opened}
-use Rattle.examining.specs.declared.Opened.TheVariants as opened
-use Rattle.examining.specs.Examining.{screened_as, Stands, Opens, Examined, RowsOf}
-use Rattle.examining.specs.Laws.{passed-short, passed-verdict, screened-refused, opened-tree, opened-refused, tabled}
-use Rattle.examining.specs.Laws.{table-refused, clean, index-offsets, lent-offsets, room-long, table-long, tree-words}
+use Rattle.examining.specs.Examining.{screened_as, Stands, Opens, Examined, RowsOf, offsets_of}
+use Rattle.examining.specs.Laws.{passed-short, passed-verdict, screened-refused, opened-tree, opened-refused}
+use Rattle.examining.specs.Laws.{clean, index-offsets, rows-room, room-made, table-made, tree-words}
 use Rattle.examining.specs.Least.{few-clean, judged-none}
-use Rattle.laying.specs.declared.Answer.TheVariants as answers
-use Rattle.laying.specs.Laying.{answered, Zeroes, Clean, CleanBy, Lays}
+use Rattle.laying.specs.declared.Laid.{Laid}
+use Rattle.laying.specs.Laying.{answered, Zeroes, Clean, Lays}
 
 -- ---- a sheet of zeroes
 
@@ -54,45 +49,35 @@ zeroed {d} n e = e ∙ ap (λ k. replicate k 0) (sym (ap length e ∙ length-rep
 
 -- ---- a refusal
 
-pub refuses : {x d : List ℕ} {v : verdict.Verdict} (f : Refusal) → refusal f ≡ v → Zeroes d → Lays x v d d (answered (answers.Refused f))
+pub refuses : {x d : List ℕ} {v : verdict.Verdict} (f : Refusal) → refusal f ≡ v → Zeroes d → Lays x v d d (answered (Err f))
 unfolding answered fitted filled Zeroes
 refuses f e z = record { gives = rw (← e); leaves = z }
 
-pub lay-refused : {x t d : List ℕ} {n : ℕ} {w : Walked} (f : Refusal) → Stands x t n → Examined x t w → w.least < no_fault → Refuses t w.least f → Zeroes d
-    → Lays x (parsed (read x)) d d (answered (answers.Refused f))
-lay-refused f s h l e z = refuses f (table-refused s h f l e) z
-
 -- an answer of `open`, or of `screen`
 module _ {x d : List ℕ} (f : Refusal) where
-  pub open-refused : {t₀ t : List ℕ} {r : Opened} → Opens x t₀ t r → r ≡ opened.Refused f → Zeroes d → Lays x (parsed (read x)) d d (answered (answers.Refused f))
+  pub open-refused : {t₀ t : List ℕ} {r : Result ℕ Refusal} → Opens x t₀ t r → r ≡ Err f → Zeroes d → Lays x (parsed (read x)) d d (answered (Err f))
   open-refused h e z = refuses f (opened-refused _ _ _ h e) z
 
 -- ---- a text without a fault
 
-pub clean_of : {x t : List ℕ} {n : ℕ} {w : Walked} {children parents : List ℕ} → Stands x t n → Examined x t w → RowsOf x t w children parents → no_fault ≤ w.least
-    → CleanBy x t w.index children parents
-clean_of {x} {t} {w = w} s h r k =
-    let i = h.indexed s.value s.reads in
-    let few = few-clean s.value (clean s h k) in
-    record {
-      room = i.room;
-      few = omega (arith, i.count);
-      clean = record {
-        value = s.value;
-        short = s.short;
-        reads = s.reads;
-        stands = s.stands;
-        kept = clean s h k;
-        indexed = λ v u.
-            let e : s.value ≡ v = unique s.stands u in
-            index-offsets (h.indexed v (s.reads ∙ ap reads e)) (subst (λ j. length (objects_of j) ≤ 1024) e few);
-        rows = r.are k;
-      };
-    }
+pub index-few : {x t : List ℕ} {n : ℕ} {w : Walked} → Stands x t n → Examined x t w → w.index.count ≤ 1024
+index-few s h = omega (arith, (h.indexed s.value s.reads).count)
 
--- with the offsets as they are lent
-pub clean-lent : {x t : List ℕ} {index : Index} {children parents : List ℕ} → CleanBy x t index children parents → Clean x t (take (index.count - 0) (drop 0 index.offsets)) children parents
-clean-lent {index = index} d = rw (lent-offsets index) d.clean
+pub clean_of : {x t offsets : List ℕ} {n : ℕ} {w : Walked} {children parents : List ℕ} → Stands x t n → Examined x t w → RowsOf x t w children parents → no_fault ≤ w.least
+    → offsets ≡ offsets_of w.index → Clean x t offsets children parents
+clean_of {x} {t} {w = w} s h r k q =
+    let few = few-clean s.value (clean s h k) in
+    rw q (record {
+      value = s.value;
+      short = s.short;
+      reads = s.reads;
+      stands = s.stands;
+      kept = clean s h k;
+      indexed = λ v u.
+          let e : s.value ≡ v = unique s.stands u in
+          index-offsets (h.indexed v (s.reads ∙ ap reads e)) (subst (λ j. length (objects_of j) ≤ 1024) e few);
+      rows = r.are k;
+    })
 
 -- ---- the sheet
 
@@ -134,7 +119,7 @@ module _ {x t offsets children parents : List ℕ} (d : Clean x t offsets childr
         let ws = sheet_of (model_of v) in
         rw sheet-of (whole-sheet ws d₁ (length d₀) size (subst (λ l. Writes ws l d₁ 0 size) z (u.is v d.stands)) (omega (arith, sheet-low)))
 
-    pub lay-laid : {n : ℕ} → n ≡ length offsets → size ≤ length d₁ → Lays x (parsed (read x)) d₀ d₁ (answered (answers.Laid size n))
+    pub lay-laid : {n : ℕ} → n ≡ length offsets → size ≤ length d₁ → Lays x (parsed (read x)) d₀ d₁ (answered (Ok (record { length = size; objects = n })))
     unfolding answered fitted filled
     lay-laid e l =
         let (a, b) = wrote-all in
@@ -142,25 +127,42 @@ module _ {x t offsets children parents : List ℕ} (d : Clean x t offsets childr
         let f : length (sheet_of_text x) ≤ length d₀ = omega arith in
         record { gives = rw (accepted-as, le-leb _ _ f, a, e); leaves = rw a (b f) }
 
-    pub lay-no-room : {d₂ : List ℕ} → length d₁ < size → d₂ ≡ replicate (length d₁) 0
-        → Lays x (parsed (read x)) d₀ d₂ (answered (answers.Refused (record { rule = broken.NoRoom; place = 0; end = 0 })))
+    pub lay-no-room : {d₂ : List ℕ} {f : Refusal} → length d₁ < size → d₂ ≡ replicate (length d₁) 0 → f ≡ record { rule = broken.NoRoom; place = 0; end = 0 }
+        → Lays x (parsed (read x)) d₀ d₂ (answered (Err f))
     unfolding answered fitted filled rule_number
-    lay-no-room l q =
+    lay-no-room l q z =
         let (a, b) = wrote-all in
         let m = (u.is v d.stands).room in
         let f : length d₀ < length (sheet_of_text x) = omega arith in
-        record { gives = rw (accepted-as, lt-leb _ _ f); leaves = q ∙ ap (λ n. replicate n 0) m }
+        record { gives = rw (accepted-as, lt-leb _ _ f, z); leaves = q ∙ ap (λ n. replicate n 0) m }
 
 -- ---- the answer
 
--- the answer for a text whose verdict is that
-pub lay-answer : {x d₀ d : List ℕ} {n : ℕ} {a : laid.Answer} → Lays x (verdict.verdict x) d₀ d a → length d₀ ≡ n → (a ≡ answer x n) × (d ≡ room_after x n)
-unfolding answer room_after
-lay-answer {x} l e = let g = rw e at l.gives in (g, rw e at l.leaves ∙ ap (filled x _) g)
+-- for a text whose verdict is that
+module _ {x d₀ d : List ℕ} {n : ℕ} {a : laid.Answer} (l : Lays x (verdict.verdict x) d₀ d a) (e : length d₀ ≡ n) where
+  pub lay-value : a ≡ answer x n
+  unfolding answer
+  lay-value = rw e at l.gives
 
-pub passed-lay : {x d₀ d : List ℕ} {a : laid.Answer} {r : Screened} → screened_as r ≡ screening x → r ≡ screened.Passed → Lays x (parsed (read x)) d₀ d a → Lays x (verdict.verdict x) d₀ d a
+  pub lay-after : d ≡ room_after x n
+  unfolding room_after
+  lay-after = rw e at l.leaves ∙ ap (filled x n) lay-value
+
+pub passed-lay : {x d₀ d : List ℕ} {a : laid.Answer} {r : Result (Unit {0}) Refusal} {u : Unit {0}} → screened_as r ≡ screening x → r ≡ Ok u → Lays x (parsed (read x)) d₀ d a
+    → Lays x (verdict.verdict x) d₀ d a
 passed-lay {x} h e l = rw (passed-verdict x h e) l
 
-pub ruleset rooms = (rules, room-long, table-long, tree-words)
+-- for a text that breaks rule 1 or 2, in a room of n bytes that is cleared
+module _ (x : List ℕ) {r : Result (Unit {0}) Refusal} (h : screened_as r ≡ screening x) {f : Refusal} (n : ℕ) (e : r ≡ Err f) where
+  screened-lay : Lays x (verdict.verdict x) (replicate n 0) (replicate n 0) (answered (Err f))
+  screened-lay = refuses f (screened-refused x h e) (zeroed n refl)
 
-pub ruleset lays = (rules, passed-short, screened-refused, opened-tree, tabled, lay-refused, open-refused, clean_of, clean-lent, clean_ready, lay-laid, lay-no-room)
+  pub screened-value : answered (Err f) ≡ answer x n
+  screened-value = lay-value screened-lay (length-replicate {A = ℕ} n 0)
+
+  pub screened-after : {d : List ℕ} → d ≡ replicate n 0 → d ≡ room_after x n
+  screened-after z = z ∙ lay-after screened-lay (length-replicate {A = ℕ} n 0)
+
+pub ruleset lays = (rules, opened-tree, refuses, open-refused, index-few, clean_of, clean_ready, lay-laid, lay-no-room)
+
+pub ruleset screens = (rules, screened-value)

@@ -1,23 +1,22 @@
 -- What lay answers, and the sheet that it leaves.
-use Rattle.std.specs.Prelude.{◌≡◌, List, [], ℕ, ◌≤◌, length, replicate}
+use Rattle.std.specs.Prelude.{◌≡◌, List, [], ℕ, ◌≤◌, length, replicate, Result, Ok, Err}
 use Rattle.json_text.specs.Tree.{Json}
 use Rattle.json_text.specs.Table.{Sub}
 use Rattle.json_text.specs.Machine.{read, reads}
 use Rattle.fields.specs.Fields.{objects_of}
-use Rattle.fields.specs.declared.Index.{Index}
 use Rattle.ids.specs.Says.{Offsets}
-use Rattle.examining.specs.Examining.{Rows, offsets_of}
+use Rattle.examining.specs.Examining.{Rows}
 use Rattle.verdict.specs.Verdict as verdict
 use Rattle.sheets.specs.Laid as laid
 use Rattle.refusals.specs.Refusals.{rule_number}
-use Rattle.laying.specs.declared.Answer.{Answer}
-use Rattle.laying.specs.declared.Answer.TheVariants as answers
+use Rattle.refusals.specs.declared.Refusal.{Refusal}
+use Rattle.laying.specs.declared.Laid.{Laid}
 
 -- what lay answers, as the answer that it is
-unfoldable pub answered : Answer → laid.Answer
+unfoldable pub answered : Result Laid Refusal → laid.Answer
 unfolding rule_number
-answered (answers.Laid size objects) = laid.laid size objects
-answered (answers.Refused f) = laid.refused (rule_number f.rule) f.place f.end
+answered (Ok a) = laid.laid a.length a.objects
+answered (Err f) = laid.refused (rule_number f.rule) f.place f.end
 
 -- the sheet d is all zeroes
 unfoldable pub Zeroes : List ℕ → Type 0
@@ -32,12 +31,6 @@ pub record Clean (x t offsets children parents : List ℕ) : Type 0 where
   pub kept : verdict.faults value ≡ []
   pub indexed : (v : Json) → Sub x t 0 v → Offsets x t (objects_of v) offsets
   pub rows : Rows x t offsets children parents
-
--- the same by an index
-pub record CleanBy (x t : List ℕ) (index : Index) (children parents : List ℕ) : Type 0 where
-  pub room : length index.offsets ≡ 1024
-  pub few : index.count ≤ 1024
-  pub clean : Clean x t (offsets_of index) children parents
 
 -- the text x, of that verdict, was laid in a sheet of zeroes d₀: a is the answer, and d is the sheet afterwards
 pub record Lays (x : List ℕ) (v : verdict.Verdict) (d₀ d : List ℕ) (a : laid.Answer) : Type 0 where

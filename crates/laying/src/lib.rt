@@ -1,23 +1,21 @@
 // Lays out a CityJSON text as a sheet of records.
 #![tactic(auto)]
 
-ghost use Rattle.std.specs.Prelude.{◌≤◌, ◌≡◌, length};
+ghost use Rattle.std.specs.Prelude.{◌+◌, ◌*◌, ◌≤◌, ◌≡◌, length};
 ghost use Rattle.verdict.specs.Verdict.{parsed};
 ghost use Rattle.json_text.specs.Machine.{read};
 ghost use Rattle.sheets.specs.Laid.{answer, room_after};
-ghost use Rattle.examining.specs.Examining.{Stands, Room, RowRoom};
-ghost use Rattle.laying.specs.Laying.{answered, Zeroes, Clean, CleanBy, Lays};
+ghost use Rattle.examining.specs.Examining.{Stands, RowRoom};
+ghost use Rattle.laying.specs.Laying.{answered, Zeroes, Clean, Lays};
 
-use examining::{Opened, Screened};
-use fields::Index;
 use nodes::NO_FAULT;
 use refusals::{Broken, Refusal};
 
-// What lay answers: the sheet's length and the number of city objects, or a refusal.
-#[derive(Drop)]
-pub enum Answer {
-    Laid(usize, usize),
-    Refused(Refusal),
+// What lay answers of a text that it laid: the sheet's length and the number of city objects.
+#[derive(Clone, Copy, PartialEq, Eq)]
+pub struct Laid {
+    pub length: usize,
+    pub objects: usize,
 }
 
 // Lays out a text in which the rules find no fault, in a sheet of zeroes.
@@ -28,38 +26,20 @@ fn lay_sheet(
     children: &[u16],
     parents: &[u16],
     sheet: &mut [u8],
-) -> Answer
+) -> Result<Laid, Refusal>
     requires { (Clean text.now table.now offsets.now children.now parents.now) × (Zeroes sheet.old) }
     ensures { Lays text.now (parsed (read text.now)) sheet.old sheet.new (answered result) }
 {
-    let size = records::sheet(text, table, offsets, children, parents, sheet);
-    if size > sheet.len() {
+    let length = records::sheet(text, table, offsets, children, parents, sheet);
+    let room = sheet.len();
+    if length > room {
         writer::clear(sheet);
-        return Answer::Refused(Refusal {
-            rule: Broken::NoRoom,
-            place: 0,
-            end: 0,
-        });
+        return Err(Refusal::at(Broken::NoRoom, 0));
     }
-    Answer::Laid(size, offsets.len())
-}
-
-// The same with the index of its city objects.
-fn lay_index(
-    text: &[u8],
-    table: &[u32],
-    index: Index,
-    children: &[u16],
-    parents: &[u16],
-    sheet: &mut [u8],
-) -> Answer
-    requires { (CleanBy text.now table.now index children.now parents.now) × (Zeroes sheet.old) }
-    ensures { Lays text.now (parsed (read text.now)) sheet.old sheet.new (answered result) }
-{
-    let offsets = index.offsets;
-    let count = index.count;
-    let all: &[usize] = &offsets;
-    lay_sheet(text, table, &all[0..count], children, parents, sheet)
+    Ok(Laid {
+        length,
+        objects: offsets.len(),
+    })
 }
 
 // Lays out a text whose tree's words are the first n of the table, in a sheet of zeroes.
@@ -70,147 +50,71 @@ fn lay_table(
     children: &mut [u16],
     parents: &mut [u16],
     sheet: &mut [u8],
-) -> Answer
+) -> Result<Laid, Refusal>
     requires { (Stands text.now table.now n) × (RowRoom text.now table.now children.old)
         × (RowRoom text.now table.now parents.old) × (Zeroes sheet.old) }
     ensures { Lays text.now (parsed (read text.now)) sheet.old sheet.new (answered result) }
 {
     let walked = examining::examine(text, table, n, children, parents);
-    let fault = walked.least;
-    if fault < NO_FAULT {
-        return Answer::Refused(refusals::refuse_fault(table, n, fault));
+    if walked.least < NO_FAULT {
+        return Err(examining::refuse(text, table, n, &walked));
     }
-    let index = walked.index;
-    lay_index(text, table, index, children, parents, sheet)
+    let offsets = examining::offsets(&walked.index);
+    lay_sheet(text, table, offsets, children, parents, sheet)
 }
 
-// The same with rows for the links of a tree of at most 6,195 words.
-fn lay_small(text: &[u8], table: &[u32], n: usize, sheet: &mut [u8]) -> Answer
-    requires { (Stands text.now table.now n) × (n ≤ 6195) × (Zeroes sheet.old) }
+// The same with rows of N numbers for the links, which do for a tree of at most 3 N words. Small rows are cleared sooner.
+#[inline(never)]
+fn lay_rows<const N: usize>(
+    text: &[u8],
+    table: &[u32],
+    n: usize,
+    sheet: &mut [u8],
+) -> Result<Laid, Refusal>
+    requires { (Stands text.now table.now n) × (n ≤ 3 * N) × (N ≤ 65535) × (Zeroes sheet.old) }
     ensures { Lays text.now (parsed (read text.now)) sheet.old sheet.new (answered result) }
 {
-    let mut below: [u16; 2065] = [0; 2065];
-    let mut above: [u16; 2065] = [0; 2065];
-    let children: &mut [u16] = &mut below;
-    let parents: &mut [u16] = &mut above;
-    lay_table(text, table, n, children, parents, sheet)
+    let mut children = [0; N];
+    let mut parents = [0; N];
+    lay_table(text, table, n, &mut children, &mut parents, sheet)
 }
 
-// The same of at most 49,152 words.
-fn lay_middle(text: &[u8], table: &[u32], n: usize, sheet: &mut [u8]) -> Answer
-    requires { (Stands text.now table.now n) × (n ≤ 49152) × (Zeroes sheet.old) }
-    ensures { Lays text.now (parsed (read text.now)) sheet.old sheet.new (answered result) }
-{
-    let mut below: [u16; 16384] = [0; 16384];
-    let mut above: [u16; 16384] = [0; 16384];
-    let children: &mut [u16] = &mut below;
-    let parents: &mut [u16] = &mut above;
-    lay_table(text, table, n, children, parents, sheet)
-}
-
-// The same of at most 98,352 words.
-fn lay_large(text: &[u8], table: &[u32], n: usize, sheet: &mut [u8]) -> Answer
-    requires { (Stands text.now table.now n) × (n ≤ 98352) × (Zeroes sheet.old) }
-    ensures { Lays text.now (parsed (read text.now)) sheet.old sheet.new (answered result) }
-{
-    let mut below: [u16; 32784] = [0; 32784];
-    let mut above: [u16; 32784] = [0; 32784];
-    let children: &mut [u16] = &mut below;
-    let parents: &mut [u16] = &mut above;
-    lay_table(text, table, n, children, parents, sheet)
-}
-
-// The same with rows of a size that suits the tree.
-fn lay_tree(text: &[u8], table: &[u32], n: usize, sheet: &mut [u8]) -> Answer
+// The same with rows of a size that suits the tree. What is alike here and in `judging` is no function that takes the rest as a closure:
+// after the call a proof would know nothing of the sheet that the closure borrowed, of which lay's clause `sheet_after` speaks.
+fn lay_tree(text: &[u8], table: &[u32], n: usize, sheet: &mut [u8]) -> Result<Laid, Refusal>
     requires { (Stands text.now table.now n) × (length table.now ≤ 98352) × (Zeroes sheet.old) }
     ensures { Lays text.now (parsed (read text.now)) sheet.old sheet.new (answered result) }
 {
     if n <= 6195 {
-        return lay_small(text, table, n, sheet);
+        return lay_rows::<2065>(text, table, n, sheet);
     }
     if n <= 49152 {
-        return lay_middle(text, table, n, sheet);
+        return lay_rows::<16384>(text, table, n, sheet);
     }
-    lay_large(text, table, n, sheet)
+    lay_rows::<32784>(text, table, n, sheet)
 }
 
-// Lays out a text in a sheet of zeroes, with a work table that has room for its tree.
-fn lay_in(text: &[u8], table: &mut [u32], sheet: &mut [u8]) -> Answer
-    requires { (Room text.now table.old) × (length table.old ≤ 98352) × (Zeroes sheet.old) }
+// Lays out a text in a sheet of zeroes, with a work table of N words, which has room for its tree. A small work table is cleared sooner.
+#[inline(never)]
+fn lay_text<const N: usize>(text: &[u8], sheet: &mut [u8]) -> Result<Laid, Refusal>
+    requires { (length text.now ≤ 65535) × (3 * length text.now + 99 ≤ 2 * N) × (N ≤ 98352) × (Zeroes sheet.old) }
     ensures { Lays text.now (parsed (read text.now)) sheet.old sheet.new (answered result) }
 {
-    let opened = examining::open(text, table);
-    match opened {
-        Opened::Tree(n) => lay_tree(text, table, n, sheet),
-        Opened::Refused(refusal) => Answer::Refused(refusal),
-    }
-}
-
-// Lays out a text that is not too long, in a sheet of zeroes.
-fn lay_long(text: &[u8], sheet: &mut [u8]) -> Answer
-    requires { (length text.now ≤ 65535) × (Zeroes sheet.old) }
-    ensures { Lays text.now (parsed (read text.now)) sheet.old sheet.new (answered result) }
-{
-    let mut space: [u32; 98352] = [0; 98352];
-    let table: &mut [u32] = &mut space;
-    lay_in(text, table, sheet)
-}
-
-// Lays out a short text whose tree's words are the first n of the table. A tree for which the small rows would not do goes the long way:
-// there is none, but the long way is a function with a frame of its own because it is called from here too.
-fn lay_short_tree(text: &[u8], table: &[u32], n: usize, sheet: &mut [u8]) -> Answer
-    requires { (Stands text.now table.now n) × (Zeroes sheet.old) }
-    ensures { Lays text.now (parsed (read text.now)) sheet.old sheet.new (answered result) }
-{
-    if n <= 6195 {
-        return lay_small(text, table, n, sheet);
-    }
-    lay_long(text, sheet)
-}
-
-// Lays out a short text in a sheet of zeroes, with a work table that has room for its tree.
-fn lay_short_in(text: &[u8], table: &mut [u32], sheet: &mut [u8]) -> Answer
-    requires { (Room text.now table.old) × (Zeroes sheet.old) }
-    ensures { Lays text.now (parsed (read text.now)) sheet.old sheet.new (answered result) }
-{
-    let opened = examining::open(text, table);
-    match opened {
-        Opened::Tree(n) => lay_short_tree(text, table, n, sheet),
-        Opened::Refused(refusal) => Answer::Refused(refusal),
-    }
-}
-
-// Lays out a text of at most 4,096 bytes in a sheet of zeroes.
-fn lay_short(text: &[u8], sheet: &mut [u8]) -> Answer
-    requires { (length text.now ≤ 4096) × (Zeroes sheet.old) }
-    ensures { Lays text.now (parsed (read text.now)) sheet.old sheet.new (answered result) }
-{
-    let mut space: [u32; 6194] = [0; 6194];
-    let table: &mut [u32] = &mut space;
-    lay_short_in(text, table, sheet)
-}
-
-// Lays out a text that is not too long, in a sheet of zeroes, with a work table of a size that suits it.
-fn lay_json(text: &[u8], sheet: &mut [u8]) -> Answer
-    requires { (length text.now ≤ 65535) × (Zeroes sheet.old) }
-    ensures { Lays text.now (parsed (read text.now)) sheet.old sheet.new (answered result) }
-{
-    if text.len() <= 4096 {
-        return lay_short(text, sheet);
-    }
-    lay_long(text, sheet)
+    let mut table = [0; N];
+    let n = examining::open(text, &mut table)?;
+    lay_tree(text, &table, n, sheet)
 }
 
 // Lays out a text in the lent sheet: the sheet's length and the number of city objects, and the sheet with zeroes after it;
 // or a refusal as judge gives it, 18 if the sheet is longer than the room, and zeroes throughout.
-pub fn lay(text: &[u8], sheet: &mut [u8]) -> Answer
+pub fn lay(text: &[u8], sheet: &mut [u8]) -> Result<Laid, Refusal>
     ensures result_value { answered result ≡ answer text.now (length sheet.old) }
     ensures sheet_after { sheet.new ≡ room_after text.now (length sheet.old) }
 {
     writer::clear(sheet);
-    let screened = examining::screen(text);
-    match screened {
-        Screened::Passed => lay_json(text, sheet),
-        Screened::Refused(refusal) => Answer::Refused(refusal),
+    examining::screen(text)?;
+    if text.len() <= 4096 {
+        return lay_text::<6194>(text, sheet);
     }
+    lay_text::<98352>(text, sheet)
 }

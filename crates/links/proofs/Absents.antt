@@ -1,23 +1,26 @@
 -- Rule 15 of the values of a list, one after the other: a set has the objects so far.
-use Prim.Native.Nat.{ℕ, ◌+◌, ◌-◌, ◌≤◌, ◌<◌}
+use Prim.Native.Nat.{ℕ, ◌≤◌, ◌<◌}
 use native.Mathlib.Omega.{arith}
 use mathlib.Core.Path.{◌≡◌, refl, sym, ap, ◌∙◌}
 use mathlib.Core.Bool.{Bool, true, false, not, ◌&&◌}
 use mathlib.Core.List.{List, [], ◌∷◌, ◌++◌}
-use lib.ListN.{length, get_or, replicate}
+use lib.ListN.{length, replicate}
 use lib.Dec.{ltb}
 use borrow.Author.Tests.{not-true, not-false, ltb-true}
 use Rattle.grid.specs.Laws.{empty}
 use Rattle.words.specs.Words.{has}
 use Rattle.json_text.specs.Tree.{Json}
 use Rattle.model.specs.Model.{object_number}
-use Rattle.nodes.specs.Access.{is_string_value, is_array_value, text_of, members, Member, first_named}
+use Rattle.nodes.specs.Access.{is_string_value, text_of, members, Member, first_named}
 use Rattle.everywhere.specs.Everywhere.{among}
 use Rattle.nodes.specs.Faults.{least}
-use Rattle.nodes.specs.Laws.{no-elements, least-++, fresh-zero, fresh-length}
+use Rattle.nodes.specs.Laws.{least-++, fresh-zero, fresh-length}
 use Rattle.nodes.specs.Says.{Node, Gives, Seeks}
-use Rattle.nodes.specs.declared.Found.{Found}
-use Rattle.nodes.specs.declared.Found.TheVariants.{At, Nothing}
+use Rattle.nodes.specs.Says.{Found}
+use Rattle.std.specs.Prelude.{Some, None}
+use Rattle.nodes.specs.Siblings.{Elements, StepsPast}
+use Rattle.std.proofs.Common.{◌⊎◌}
+use Rattle.nodes.specs.declared.Siblings.{Siblings}
 use Rattle.shapes.specs.Checks.{unless, is_some}
 use Rattle.ids.specs.Says.{names_of}
 use Rattle.marks.specs.Says.{Row, MarkGives}
@@ -27,7 +30,7 @@ use Rattle.rules.specs.Links.{ids_among}
 use Rattle.links.specs.Passes.{absent_at, absent}
 use Rattle.links.specs.Says.{numbers_of, AbsentGives, Sized, AbsentsGive, AbsentUnder}
 use Rattle.links.proofs.Numbers.{among-has, string-number, some_number, names-count}
-use Rattle.links.proofs.Lists.{Numbered, numbered-begin, numbered-word, numbered-node, numbered_next, numbered-less, numbered-turn, numbered-done, under_none, under_some}
+use Rattle.links.proofs.Lists.{Numbered, numbered-begin, numbered-node, numbered-turn, numbered-done, under_none, under_some}
 
 -- ---- one value
 
@@ -94,38 +97,29 @@ absent-cons b ms earlier v vs = least-++ b (absent_at ms earlier v) (absent ms (
 pub record Rest (count best acc : ℕ) (g : List ℕ) (ms : List Member) (all left : List Json) : Type 0 where
   of : count ≡ length ms → (earlier : List (List ℕ)) × (Row count g 0 (numbers_of ms earlier)) × (least acc (absent ms earlier left) ≡ least best (absent ms [] all))
 
--- what the loop over the values of the list at the node i knows where it has come to the node k, the j-th value, with the least fault acc and the set g
-pub record Listing (x t : List ℕ) (i : ℕ) (ns : List ℕ) (count best n k j acc : ℕ) (g : List ℕ) : Type 0 where
-  pub list : Numbered x t i ns n k j (Rest count best acc g)
+-- what the loop over the values of the list at the node i knows where it has come to s, with the numbers ls left, the least fault acc and the set g
+pub record Listing (x t : List ℕ) (i : ℕ) (ns : List ℕ) (count best : ℕ) (s : Siblings) (ls : List ℕ) (acc : ℕ) (g : List ℕ) : Type 0 where
+  pub list : Numbered x t i ns s ls (Rest count best acc g)
   pub room : length g ≡ 128
 
 module _ {x t : List ℕ} {i : ℕ} {ns : List ℕ} where
-  pub listing-begin : (count best : ℕ) {n : ℕ} {b : Bool} {g : List ℕ} → Sized x t i ns → Gives is_array_value x t i b → not b ≡ false → n ≡ get_or t (i + 2) 0 → g ≡ replicate 128 0
-      → Listing x t i ns count best n (i + 3) 0 best g
+  pub listing-begin : (count best : ℕ) {s r : Siblings} {g : List ℕ} → Sized x t i ns → Elements x t i r → s ≡ r → g ≡ replicate 128 0
+      → Listing x t i ns count best s ns best g
   unfolding numbers_of has
-  listing-begin count best {g = g} d a h q f = record {
-    list = numbered-begin (Rest count best best g) d a h q (λ ms l. record { of = λ c. ([], record { is = λ m l. empty g (fresh-zero 128 f) 0 m }, refl) });
+  listing-begin count best {g = g} d e q f = record {
+    list = numbered-begin (Rest count best best g) d e q (λ ms l. record { of = λ c. ([], record { is = λ m l. empty g (fresh-zero 128 f) 0 m }, refl) });
     room = fresh-length 128 f;
   }
 
-  module _ {count best n k j acc : ℕ} {g : List ℕ} (p : Listing x t i ns count best n k j acc g) where
-    module _ (l : k < n) where
-      pub listing-word : j < length ns
-      listing-word = numbered-word p.list l
-
+  module _ {count best acc : ℕ} {s : Siblings} {ls g : List ℕ} (p : Listing x t i ns count best s ls acc g) where
+    module _ {k : ℕ} {u : Siblings} (a : StepsPast s k u) where
       pub listing-node : Node x t k
-      listing-node = numbered-node p.list l
+      listing-node = numbered-node p.list a
 
-      pub listing-next : k + 2 < length t
-      listing-next = numbered_next p.list l
-
-      pub listing-less : {m : ℕ} → m ≡ get_or t (k + 2) 0 → n - m < n - k
-      listing-less q = numbered-less p.list l q
-
-      pub listing-turn : {m number acc' : ℕ} {g' : List ℕ} → number ≡ get_or ns j 0 → AbsentGives x t k number count g g' acc acc' → m ≡ get_or t (k + 2) 0
-          → Listing x t i ns count best n m (j + 1) acc' g'
-      listing-turn {acc' = acc'} {g'} a e q = record {
-        list = numbered-turn p.list l (Rest count best acc' g') a q (λ ms all v vs s y u. record {
+      pub listing-turn : {number acc' : ℕ} {ls' g' : List ℕ} → ls ≡ number ∷ ls' → AbsentGives x t k number count g g' acc acc'
+          → Listing x t i ns count best u ls' acc' g'
+      listing-turn {acc' = acc'} {g' = g'} n e = record {
+        list = numbered-turn p.list a (Rest count best acc' g') n (λ ms all v vs s y u. record {
           of = λ c.
               let (earlier, right, faults) = u.of c in
               let (f, o) = e.is ms c v s y earlier right in
@@ -137,20 +131,16 @@ module _ {x t : List ℕ} {i : ℕ} {ns : List ℕ} where
     pub listing-room : 128 ≤ length g
     listing-room = omega (arith, p.room)
 
-    pub listing-done : n ≤ k → AbsentsGive x t i ns count best acc
+    pub listing-done : (s.end ≤ s.at) ⊎ (length ls ≡ 0) → AbsentsGive x t i ns count best acc
     unfolding absent least
-    listing-done h = record { is = λ ms c v s z. ((numbered-done p.list h ms v s z).of c).2 }
-
-  pub listing-other : (count best : ℕ) {b : Bool} → Gives is_array_value x t i b → not b ≡ true → AbsentsGive x t i ns count best best
-  unfolding absent least
-  listing-other count best {b} a h = record { is = λ ms c v s z. rw (no-elements v (sym (a.is v s) ∙ not-true b h)) refl }
+    listing-done h = record { is = λ ms c v y z. ((numbered-done p.list h ms v y z).of c).2 }
 
 -- ---- what an object lists
 
 module _ {x t : List ℕ} {i : ℕ} (name : List ℕ) {ns : List ℕ} {found : Found} (s : Seeks (λ v. first_named name (members v)) x t i found) where
-  pub absent-nothing : (count best : ℕ) → found ≡ Nothing → AbsentUnder x t i name ns count best best
+  pub absent-nothing : (count best : ℕ) → found ≡ None → AbsentUnder x t i name ns count best best
   unfolding absent least
   absent-nothing count best e = record { is = λ ms c v u z. rw (under_none name s e v u) refl }
 
-  pub absent-some : {k count best r : ℕ} → found ≡ At k → AbsentsGive x t k ns count best r → AbsentUnder x t i name ns count best r
+  pub absent-some : {k count best r : ℕ} → found ≡ Some k → AbsentsGive x t k ns count best r → AbsentUnder x t i name ns count best r
   absent-some e a = record { is = λ ms c v u z. let (w, y, q) = under_some name s e v u in rw q (a.is ms c w y (rw (← q) z)) }

@@ -14,8 +14,8 @@ use Rattle.words.specs.Tables.{looks_second_level}
 use Rattle.words.specs.Laws.{not-second}
 use Rattle.nodes.specs.Access.{is_string_value}
 use Rattle.nodes.specs.Says.{Gives, GivesFound}
-use Rattle.nodes.specs.declared.Found.{Found}
-use Rattle.nodes.specs.declared.Found.TheVariants.{At, Nothing}
+use Rattle.nodes.specs.Says.{Found}
+use Rattle.std.specs.Prelude.{Some, None}
 use Rattle.fields.specs.Fields.{text_in}
 use Rattle.fields.specs.Says.{StringNode}
 use Rattle.fields.specs.Laws.{at-node, of_none, of_some, string-node, string-span, string-text, other_text}
@@ -39,11 +39,11 @@ level-from code = of (leb 17 code) refl
     of false e = let l : code < 17 = leb-false 17 code e in sym (le-ltb 16 code (omega arith))
 
 module _ {x t : List ℕ} {found : Found} where
-  pub second-nothing : found ≡ Nothing → GivesFound (λ o. is_second_level (code_of object_words (text_in o))) x t found false
+  pub second-nothing : found ≡ None → GivesFound (λ o. is_second_level (code_of object_words (text_in o))) x t found false
   unfolding text_in second
   second-nothing e = of_none (λ o. second (text_in o)) e second_none
 
-  module _ {k : ℕ} (e : found ≡ At k) where
+  module _ {k : ℕ} (e : found ≡ Some k) where
     pub second-other : {b : Bool} → Gives is_string_value x t k b → not b ≡ true → GivesFound (λ o. is_second_level (code_of object_words (text_in o))) x t found false
     unfolding text_in second
     second-other g h = of_some (λ o. second (text_in o)) e (other_text second g h second_none)

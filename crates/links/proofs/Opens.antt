@@ -1,10 +1,10 @@
 -- Rule 17 of the values of a list, one after the other, where a set has what all objects list on the other side.
-use Prim.Native.Nat.{ℕ, ◌+◌, ◌-◌, ◌*◌, ◌≤◌, ◌<◌}
+use Prim.Native.Nat.{ℕ, ◌*◌, ◌≤◌, ◌<◌}
 use Prim.Native.String.{String}
 use native.Mathlib.Omega.{arith}
 use mathlib.Core.Path.{◌≡◌, refl, sym, ap, ◌∙◌}
 use mathlib.Core.Bool.{Bool, true, false, not, ◌&&◌}
-use mathlib.Core.List.{List, [], ◌∷◌, ◌++◌, map}
+use mathlib.Core.List.{List, [], ◌∷◌, map}
 use mathlib.Core.Option.{Option, none, some}
 use lib.ListN.{length, get_or}
 use lib.Dec.{ltb}
@@ -15,13 +15,16 @@ use Rattle.grid.specs.Grid.{holds}
 use Rattle.words.specs.Words.{has, is}
 use Rattle.json_text.specs.Tree.{Json}
 use Rattle.model.specs.Model.{object_number}
-use Rattle.nodes.specs.Access.{is_string_value, is_array_value, text_of, members, Member, first_named, find}
+use Rattle.nodes.specs.Access.{is_string_value, text_of, members, Member, first_named, find}
 use Rattle.everywhere.specs.Everywhere.{among}
 use Rattle.nodes.specs.Faults.{least}
-use Rattle.nodes.specs.Laws.{no-elements, least-++}
+use Rattle.nodes.specs.Laws.{least-++}
 use Rattle.nodes.specs.Says.{Node, Gives, Seeks}
-use Rattle.nodes.specs.declared.Found.{Found}
-use Rattle.nodes.specs.declared.Found.TheVariants.{At, Nothing}
+use Rattle.nodes.specs.Says.{Found}
+use Rattle.std.specs.Prelude.{Some, None}
+use Rattle.nodes.specs.Siblings.{Elements, StepsPast}
+use Rattle.std.proofs.Common.{◌⊎◌}
+use Rattle.nodes.specs.declared.Siblings.{Siblings}
 use Rattle.shapes.specs.Checks.{unless, is_some}
 use Rattle.shapes.specs.Laws.{unless-true}
 use Rattle.fields.specs.Fields.{listed_in, type_text}
@@ -34,7 +37,7 @@ use Rattle.links.specs.Passes.{open_at, open_in, listed_under}
 use Rattle.links.specs.Says.{Sized, OtherSide, OpenGives, OpensGive, OpenUnder, ChildrenOpen}
 use Rattle.links.proofs.Numbers.{listed_has, string-number, some_number, named-number, names-count}
 use Rattle.links.proofs.Split.{excused-none}
-use Rattle.links.proofs.Lists.{Numbered, numbered-begin, numbered-word, numbered-node, numbered_next, numbered-less, numbered-turn, numbered-done, under_none, under_some}
+use Rattle.links.proofs.Lists.{Numbered, numbered-begin, numbered-node, numbered-turn, numbered-done, under_none, under_some}
 
 -- ---- one value
 
@@ -91,51 +94,38 @@ pub record Rest (g : List ℕ) (own best acc : ℕ) (ms : List Member) (all left
   of : (back : String) → OtherSide ms back g → (id : List ℕ) → own ≡ object_number (names_of ms) id → own < length ms
       → least acc (open_in ms back id false left) ≡ least best (open_in ms back id false all)
 
--- what the loop over the values of the list at the node i knows where it has come to the node k, the j-th value, with the least fault acc
-pub record Opening (x t : List ℕ) (i : ℕ) (ns g : List ℕ) (own best n k j acc : ℕ) : Type 0 where
-  pub list : Numbered x t i ns n k j (Rest g own best acc)
+-- what the loop over the values of the list at the node i knows where it has come to s, with the numbers ls left and the least fault acc
+pub record Opening (x t : List ℕ) (i : ℕ) (ns g : List ℕ) (own best : ℕ) (s : Siblings) (ls : List ℕ) (acc : ℕ) : Type 0 where
+  pub list : Numbered x t i ns s ls (Rest g own best acc)
 
 module _ {x t : List ℕ} {i : ℕ} {ns g : List ℕ} {own : ℕ} where
-  pub opening-begin : (best : ℕ) {n : ℕ} {b : Bool} → Sized x t i ns → Gives is_array_value x t i b → not b ≡ false → n ≡ get_or t (i + 2) 0 → Opening x t i ns g own best n (i + 3) 0 best
-  opening-begin best d a h q = record { list = numbered-begin (Rest g own best best) d a h q (λ ms l. record { of = λ back o id e m. refl }) }
+  pub opening-begin : (best : ℕ) {s r : Siblings} → Sized x t i ns → Elements x t i r → s ≡ r → Opening x t i ns g own best s ns best
+  opening-begin best d e q = record { list = numbered-begin (Rest g own best best) d e q (λ ms l. record { of = λ back o id e m. refl }) }
 
-  module _ {best n k j acc : ℕ} (p : Opening x t i ns g own best n k j acc) where
-    module _ (l : k < n) where
-      pub opening-word : j < length ns
-      opening-word = numbered-word p.list l
-
+  module _ {best acc : ℕ} {s : Siblings} {ls : List ℕ} (p : Opening x t i ns g own best s ls acc) where
+    module _ {k : ℕ} {u : Siblings} (a : StepsPast s k u) where
       pub opening-node : Node x t k
-      opening-node = numbered-node p.list l
+      opening-node = numbered-node p.list a
 
-      pub opening-next : k + 2 < length t
-      opening-next = numbered_next p.list l
-
-      pub opening-less : {m : ℕ} → m ≡ get_or t (k + 2) 0 → n - m < n - k
-      opening-less q = numbered-less p.list l q
-
-      pub opening-turn : {m number acc' : ℕ} → number ≡ get_or ns j 0 → OpenGives x t k number g own acc acc' → m ≡ get_or t (k + 2) 0 → Opening x t i ns g own best n m (j + 1) acc'
-      opening-turn {acc' = acc'} a e q = record {
-        list = numbered-turn p.list l (Rest g own best acc') a q (λ ms all v vs s y u. record {
+      pub opening-turn : {number acc' : ℕ} {ls' : List ℕ} → ls ≡ number ∷ ls' → OpenGives x t k number g own acc acc' → Opening x t i ns g own best u ls' acc'
+      opening-turn {acc' = acc'} n e = record {
+        list = numbered-turn p.list a (Rest g own best acc') n (λ ms all v vs s y u. record {
           of = λ back o id c m. rw (e.is ms back o id c m v s y) (sym (open-cons acc ms back id v vs) ∙ u.of back o id c m);
         });
       }
 
-    pub opening-done : n ≤ k → OpensGive x t i ns g own best acc
+    pub opening-done : (s.end ≤ s.at) ⊎ (length ls ≡ 0) → OpensGive x t i ns g own best acc
     unfolding open_in least
-    opening-done h = record { is = λ ms back o id c m v s z. (numbered-done p.list h ms v s z).of back o id c m }
-
-  pub opening-other : (best : ℕ) {b : Bool} → Gives is_array_value x t i b → not b ≡ true → OpensGive x t i ns g own best best
-  unfolding open_in least
-  opening-other best {b} a h = record { is = λ ms back o id c m v s z. rw (no-elements v (sym (a.is v s) ∙ not-true b h)) refl }
+    opening-done h = record { is = λ ms back o id c m v y z. (numbered-done p.list h ms v y z).of back o id c m }
 
 -- ---- what an object lists
 
 module _ {x t : List ℕ} {i : ℕ} (name : List ℕ) {ns g : List ℕ} {own : ℕ} {found : Found} (s : Seeks (λ v. first_named name (members v)) x t i found) where
-  pub open-nothing : (best : ℕ) → found ≡ Nothing → OpenUnder x t i name ns g own best best
+  pub open-nothing : (best : ℕ) → found ≡ None → OpenUnder x t i name ns g own best best
   unfolding open_in least
   open-nothing best e = record { is = λ ms back o id c m v u z. rw (under_none name s e v u) refl }
 
-  pub open-some : {k best r : ℕ} → found ≡ At k → OpensGive x t k ns g own best r → OpenUnder x t i name ns g own best r
+  pub open-some : {k best r : ℕ} → found ≡ Some k → OpensGive x t k ns g own best r → OpenUnder x t i name ns g own best r
   open-some e a = record { is = λ ms back o id c m v u z. let (w, y, q) = under_some name s e v u in rw q (a.is ms back o id c m w y (rw (← q) z)) }
 
 -- a row of which each number is answered has no fault

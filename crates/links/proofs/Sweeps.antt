@@ -1,14 +1,13 @@
 -- The objects one after the other: first rule 15, which fills the sets, then rules 16 and 17.
-use Prim.Native.Nat.{ℕ, zero, suc, ◌+◌, ◌-◌, ◌*◌, ◌^◌, ◌≤◌, ◌<◌}
+use Prim.Native.Nat.{ℕ, suc, ◌+◌, ◌*◌, ◌^◌, ◌≤◌, ◌<◌}
 use Prim.Native.String.{String}
 use native.Mathlib.Omega.{arith}
 use native.Mathlib.Numerals.{add-one}
 use mathlib.Core.Path.{◌≡◌, refl, sym, ap, ◌∙◌}
 use mathlib.Core.Bool.{Bool, true, false, not, ◌&&◌, and-true, and-false}
 use mathlib.Core.List.{List, [], ◌∷◌, ◌++◌, map}
-use mathlib.Core.Option.{none}
-use lib.ListN.{length, get_or, take, drop, drop_of_length-le, length-map, replicate}
-use lib.Seq.{drop-cons, ext_get_or, length-take-le}
+use lib.ListN.{length, get_or, drop, drop_of_length-le, length-map}
+use lib.Seq.{drop-cons, ext_get_or}
 use lib.Dec.{eqb, ltb}
 use borrow.Author.Tests.{ne_eqb, ltb-true}
 use mir.Val.{Fits}
@@ -23,9 +22,9 @@ use Rattle.model.specs.Code.{concat_map}
 use Rattle.model.specs.Model.{object_number}
 use Rattle.nodes.specs.Access.{is_string_value, name_of, Member, find}
 use Rattle.nodes.specs.Faults.{least}
-use Rattle.nodes.specs.Laws.{least-++, fresh-zero, fresh-length}
+use Rattle.nodes.specs.Laws.{least-++}
 use Rattle.nodes.specs.Says.{Node, Seeks, Gives, GivesFound}
-use Rattle.nodes.specs.declared.Found.{Found}
+use Rattle.nodes.specs.Says.{Found}
 use Rattle.shapes.specs.Checks.{unless, is_empty}
 use Rattle.shapes.specs.Laws.{unless-true}
 use Rattle.fields.specs.Fields.{text_in, listed_in, type_text, objects_of}
@@ -39,8 +38,9 @@ use Rattle.marks.specs.Says as marks
 use Rattle.rows.specs.Rows.{link_number, link_numbers}
 use Rattle.rows.specs.Says.{Listed}
 use Rattle.rules.specs.Links.{ids_among, parent_link, link_faults}
+use Rattle.links.specs.declared.City.{City}
 use Rattle.links.specs.Passes.{absent_at, absent, listed_under, absent_under, open_in, open_children, open_parents}
-use Rattle.links.specs.Says.{numbers_of, SizedUnder, AbsentUnder, ListedAs, ObjectGives, AllGive, Fills, OtherSide, Links, OpenUnder, ChildrenOpen, ParentGives, OpenFaults, Empty, Town, Marks, LinkFaults, Ready, LinksGive}
+use Rattle.links.specs.Says.{numbers_of, SizedUnder, AbsentUnder, ListedAs, ObjectGives, AllGive, Fills, OtherSide, Links, OpenUnder, ChildrenOpen, ParentGives, OpenFaults, Empty, EachGives, Town, Marks, LinkFaults, Ready, LinksGive}
 use Rattle.links.proofs.Numbers.{other-number, names-count}
 use Rattle.links.proofs.Absents.{absent-is, numbers-cons}
 use Rattle.links.proofs.Split.{split-objects, excused-none}
@@ -72,6 +72,23 @@ module _ {x t offsets : List ℕ} {f : List Member → Member → List ℕ} wher
     pub sweep-done : length offsets ≤ k → AllGive x t offsets f best acc
     unfolding concat_map least
     sweep-done h = record { is = λ ms o. sym (ap (λ (os : List Member). least acc (concat_map (f ms) os)) (drop_of_length-le ms {i = k} (omega (arith, o.all)))) ∙ s.of ms o }
+
+-- a loop over the objects that checks each, with the least fault acc, whatever the faults are
+pub record Checking (offsets : List ℕ) (post : ℕ → ℕ → ℕ → Type 0) (best k acc : ℕ) : Type 0 where
+  pub fits : acc < 2 ^ 32
+  pub sweep : (x t : List ℕ) (f : List Member → Member → List ℕ)
+      → ((k b r : ℕ) → k < length offsets → b < 2 ^ 32 → post k b r → ObjectGives x t offsets f k b r) → Sweeping x t offsets f best k acc
+
+module _ {offsets : List ℕ} {post : ℕ → ℕ → ℕ → Type 0} where
+  pub check-begin : (best : ℕ) → best < 2 ^ 32 → Checking offsets post best 0 best
+  check-begin best h = record { fits = h; sweep = λ x t f e. sweep-begin best }
+
+  module _ {best k acc : ℕ} (s : Checking offsets post best k acc) where
+    pub check-turn : {acc' : ℕ} → k < length offsets → post k acc acc' → acc' < 2 ^ 32 → Checking offsets post best (k + 1) acc'
+    check-turn l p h = record { fits = h; sweep = λ x t f e. sweep-turn (s.sweep x t f e) l (e k _ _ l s.fits p) }
+
+    pub check-done : length offsets ≤ k → EachGives offsets post best acc
+    check-done h = record { is = λ x t f e. sweep-done (s.sweep x t f e) h }
 
 -- ---- what an object lists
 
@@ -286,18 +303,15 @@ parents-open d {k} l e {best} a p = record {
 pub open-both : {x t offsets : List ℕ} {best a r : ℕ} → AllGive x t offsets open_children best a → AllGive x t offsets open_parents a r → OpenFaults x t offsets best r
 open-both p q = record { is = λ ms o. q.is ms o ∙ ap (λ (z : ℕ). least z (concat_map (open_parents ms) ms)) (p.is ms o) }
 
-module _ {x t offsets children parents : List ℕ} (d : Town x t offsets children parents) where
-  pub town-below : {name : List ℕ} → name ≡ ascii "children" → ListedAs x t offsets name children
+module _ {c : City} (d : Town c) where
+  pub town-below : {name : List ℕ} → name ≡ ascii "children" → ListedAs c.text.now c.table.now c.offsets.now name c.children.now
   town-below q = record { objects = d.objects; word = "children"; bytes = q; listed = d.below }
 
-  pub town-above : {name : List ℕ} → name ≡ ascii "parents" → ListedAs x t offsets name parents
+  pub town-above : {name : List ℕ} → name ≡ ascii "parents" → ListedAs c.text.now c.table.now c.offsets.now name c.parents.now
   town-above q = record { objects = d.objects; word = "parents"; bytes = q; listed = d.above }
 
-  pub town-few : length offsets * 128 ≤ 131072
-  town-few = omega (arith, d.objects.stand.few)
-
-  pub town-marks : {best a r : ℕ} {n m c₀ c p₀ p : List ℕ} → n ≡ ascii "children" → m ≡ ascii "parents" → Fills x t offsets n c₀ c best a → Fills x t offsets m p₀ p a r
-      → Marks x t offsets children parents c₀ c p₀ p best r
+  pub town-marks : {best a r : ℕ} {n m g₀ g p₀ p : List ℕ} → n ≡ ascii "children" → m ≡ ascii "parents" → Fills c.text.now c.table.now c.offsets.now n g₀ g best a
+      → Fills c.text.now c.table.now c.offsets.now m p₀ p a r → Marks c g₀ g p₀ p best r
   town-marks {m = m} z y f g = record {
     faults = λ ms o. rw (← z, ← y) (g.faults.is ms o ∙ ap (λ (k : ℕ). least k (concat_map (absent_under m ms) ms)) (f.faults.is ms o));
     room-below = f.room;
@@ -306,24 +320,12 @@ module _ {x t offsets children parents : List ℕ} (d : Town x t offsets childre
     down = record { objects = d.objects; alone = d.alone; listed = d.above; set = λ ms o. f.set ms o "children" z };
   }
 
-pub marks-links : {x t offsets children parents c₀ c p₀ p : List ℕ} {best a r : ℕ} → Marks x t offsets children parents c₀ c p₀ p best a → OpenFaults x t offsets a r → LinkFaults x t offsets best r
+pub marks-links : {c : City} {g₀ g p₀ p : List ℕ} {best a r : ℕ} → Marks c g₀ g p₀ p best a → OpenFaults c.text.now c.table.now c.offsets.now a r
+    → LinkFaults c.text.now c.table.now c.offsets.now best r
 marks-links {best = best} {a} f h = record {
   is = λ ms o.
       let c = least best (concat_map (absent_under (ascii "children") ms) ms) in
       split-objects ms ms best {p = c} {q = a} {r = least a (concat_map (open_children ms) ms)} refl (f.faults ms o) refl (h.is ms o);
-}
-
--- a set that was just made, of which as much is lent as has a row for each object
-zero-take : (k : ℕ) (s : List ℕ) → ((i : ℕ) → get_or s i 0 ≡ 0) → (i : ℕ) → get_or (take k s) i 0 ≡ 0
-zero-take zero s z i = refl
-zero-take (suc k) [] z i = refl
-zero-take (suc k) (b ∷ s) z zero = z 0
-zero-take (suc k) (b ∷ s) z (suc i) = zero-take k s (λ j. z (suc j)) i
-
-pub emptied : {g s : List ℕ} {count size : ℕ} (n : ℕ) → s ≡ replicate n 0 → size ≡ count * 128 → count * 128 ≤ n → g ≡ take (size - 0) (drop 0 s) → Empty g count
-emptied {s = s} {count} {size} n q e h p = let z : size - 0 ≡ count * 128 = omega arith in record {
-  room = rw (p, z) (length-take-le (count * 128) s (omega (arith, fresh-length n q)));
-  clear = λ i. rw p (zero-take (size - 0) s (fresh-zero n q) i);
 }
 
 -- members at the same offsets have the same IDs
@@ -331,15 +333,14 @@ names_same : {x t offsets : List ℕ} {ms os : List Member} → Offsets x t ms o
 names_same {ms = ms} {os} o u =
     ext_get_or [] (names_of ms) (names_of os) (names-all o ∙ sym (names-all u)) (λ k l. name-is o (omega (arith, names-all o)) ∙ sym (name-is u (omega (arith, names-all o))))
 
-module _ {x t offsets children parents : List ℕ} (d : Ready x t offsets children parents) where
-  pub ready-town : Town x t offsets children parents
-  ready-town = let u = d.indexed d.value d.stands in record {
-    objects = record { members = objects_of d.value; stand = u; short = d.short };
-    alone = λ ms o k l. rw (names_same o u) (d.alone k (omega (arith, u.all)));
-    below = d.below;
-    above = d.above;
-  }
+pub ready-town : {c : City} → Ready c.text.now c.table.now c.offsets.now c.children.now c.parents.now → Town c
+ready-town d = let u = d.indexed d.value d.stands in record {
+  objects = record { members = objects_of d.value; stand = u; short = d.short };
+  alone = λ ms o k l. rw (names_same o u) (d.alone k (omega (arith, u.all)));
+  below = d.below;
+  above = d.above;
+}
 
-  pub links-given : {best r : ℕ} → LinkFaults x t offsets best r → LinksGive x t best r
-  unfolding link_faults
-  links-given g = record { is = λ v s. g.is (objects_of v) (d.indexed v s) }
+pub links-given : {x t offsets children parents : List ℕ} → Ready x t offsets children parents → {best r : ℕ} → LinkFaults x t offsets best r → LinksGive x t best r
+unfolding link_faults
+links-given d g = record { is = λ v s. g.is (objects_of v) (d.indexed v s) }

@@ -1,5 +1,5 @@
 -- What the functions over links ask and tell.
-use Rattle.std.specs.Prelude.{◌≡◌, false, List, [], ◌∷◌, ◌++◌, map, ℕ, ◌+◌, ◌*◌, ◌<◌, ◌≤◌, length, get_or}
+use Rattle.std.specs.Prelude.{◌≡◌, false, List, [], ◌∷◌, ◌++◌, map, ℕ, ◌*◌, ◌^◌, ◌<◌, ◌≤◌, length, get_or}
 use Prim.Native.String.{String}
 use Rattle.words.specs.Words as word
 use Rattle.json_text.specs.Tree.{Json}
@@ -16,6 +16,7 @@ use Rattle.marks.specs.Says.{Row}
 use Rattle.rows.specs.Rows.{link_number, link_numbers}
 use Rattle.rows.specs.Says.{Listed}
 use Rattle.rules.specs.Links.{ids_among, parent_link, links_of_each, link_faults}
+use Rattle.links.specs.declared.City.{City}
 use Rattle.links.specs.Passes.{absent_at, absent, listed_under, absent_under, open_at, open_in, open_children, open_parents}
 
 -- the numbers of the objects that some IDs name
@@ -119,21 +120,31 @@ pub record Empty (g : List ℕ) (count : ℕ) : Type 0 where
   pub room : length g ≡ count * 128
   pub clear : (i : ℕ) → get_or g i 0 ≡ 0
 
--- the objects, no two of which have the same ID, with the rows of what they list
-pub record Town (x t offsets children parents : List ℕ) : Type 0 where
-  pub objects : Objects x t offsets
-  pub alone : (ms : List Member) → Offsets x t ms offsets → (k : ℕ) → k < length offsets → object_number (names_of ms) (get_or (names_of ms) k []) ≡ k
-  pub below : Listed x t offsets "children" children
-  pub above : Listed x t offsets "parents" parents
+-- a check may be called at each of `count` objects, by the object's number and the least fault so far
+pub record CheckedAt (count : ℕ) (pre : ℕ → ℕ → Type 0) : Type 0 where
+  pub at : (k b : ℕ) → k < count → b < 2 ^ 32 → pre k b
 
--- rule 15 of all objects; the sets c and p, which were c₀ and p₀, have who lists whom as a child, and as a parent
-pub record Marks (x t offsets children parents c₀ c p₀ p : List ℕ) (best r : ℕ) : Type 0 where
-  pub faults : (ms : List Member) → Offsets x t ms offsets
+-- r is the least of best and of the faults of each object, if what the check gives is that of one
+pub record EachGives (offsets : List ℕ) (post : ℕ → ℕ → ℕ → Type 0) (best r : ℕ) : Type 0 where
+  pub is : (x t : List ℕ) (f : List Member → Member → List ℕ)
+      → ((k b r : ℕ) → k < length offsets → b < 2 ^ 32 → post k b r → ObjectGives x t offsets f k b r) → AllGive x t offsets f best r
+
+-- the objects, no two of which have the same ID, with the rows of what they list
+pub record Town (c : City) : Type 0 where
+  pub objects : Objects c.text.now c.table.now c.offsets.now
+  pub alone : (ms : List Member) → Offsets c.text.now c.table.now ms c.offsets.now
+      → (k : ℕ) → k < length c.offsets.now → object_number (names_of ms) (get_or (names_of ms) k []) ≡ k
+  pub below : Listed c.text.now c.table.now c.offsets.now "children" c.children.now
+  pub above : Listed c.text.now c.table.now c.offsets.now "parents" c.parents.now
+
+-- rule 15 of all objects; the sets g and p, which were g₀ and p₀, have who lists whom as a child, and as a parent
+pub record Marks (c : City) (g₀ g p₀ p : List ℕ) (best r : ℕ) : Type 0 where
+  pub faults : (ms : List Member) → Offsets c.text.now c.table.now ms c.offsets.now
       → r ≡ least (least best (concat_map (absent_under (ascii "children") ms) ms)) (concat_map (absent_under (ascii "parents") ms) ms)
-  pub room-below : length c ≡ length c₀
+  pub room-below : length g ≡ length g₀
   pub room-above : length p ≡ length p₀
-  pub up : Links x t offsets "children" children "parents" p
-  pub down : Links x t offsets "parents" parents "children" c
+  pub up : Links c.text.now c.table.now c.offsets.now "children" c.children.now "parents" p
+  pub down : Links c.text.now c.table.now c.offsets.now "parents" c.parents.now "children" g
 
 -- rules 15 to 17 of all objects
 pub record LinkFaults (x t offsets : List ℕ) (best r : ℕ) : Type 0 where

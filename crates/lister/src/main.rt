@@ -3,39 +3,25 @@
 // and the status is 1.
 #![tactic(auto)]
 
+ghost use Rattle.std.specs.Prelude.{IfOk};
 ghost use Rattle.io.specs.Counts.{IsPrefixLen};
 
 use anyhow::{Result, anyhow};
 use std::io::{Read, Write};
 
-// How many bytes were read, and why no more could be, if that failed.
-#[derive(Drop)]
-struct Input {
-    size: usize,
-    end: std::io::Result<()>,
-}
-
-// Reads until the room is full or the input ends.
-fn read(from: &mut impl Read, room: &mut [u8]) -> Input
-    ensures { IsPrefixLen result.size room.new }
+// Reads until the room is full or the input ends, and answers how many bytes were read. No method of std does so without a `Vec`: `read_exact`
+// fails where the input ends before the room.
+fn read(from: &mut impl Read, room: &mut [u8]) -> std::io::Result<usize>
+    ensures { IfOk result (λ size. IsPrefixLen size room.new) }
 {
     let mut done = 0;
     while done < room.len() {
-        match from.read(&mut room[done..]) {
-            Ok(0) => break,
-            Ok(more) => done += more,
-            Err(error) => {
-                return Input {
-                    size: done,
-                    end: Err(error),
-                };
-            }
+        match from.read(&mut room[done..])? {
+            0 => break,
+            more => done += more,
         }
     }
-    Input {
-        size: done,
-        end: Ok(()),
-    }
+    Ok(done)
 }
 
 // Prints the line of a text.
@@ -49,9 +35,6 @@ fn print(rt: &impl Print, text: &[u8]) -> std::io::Result<()> {
 fn main(rt: HostRuntime) -> Result<()> {
     let mut room = [0u8; 65536];
     let input = read(&mut rt.stdin(), &mut room);
-    let n = input.size;
-    if let Err(error) = input.end {
-        return Err(anyhow!("lister: standard input: {error}"));
-    }
+    let n = input.map_err(|error| anyhow!("lister: standard input: {error}"))?;
     print(&rt, &room[..n]).map_err(|error| anyhow!("lister: standard output: {error}"))
 }

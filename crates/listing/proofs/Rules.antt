@@ -6,9 +6,12 @@ use Prim.Native.Nat.{ℕ, zero, suc, ◌+◌, ◌*◌, ◌-◌, ◌/◌, ◌%◌
 use native.Mathlib.Omega.{arith}
 use native.Mathlib.Numerals.{add-one}
 use native.Mathlib.Nat.{pow-suc, one-le-pow, pow-le-pow_right, zero-add}
-use lib.ListN.{length, take, drop, get_or, set, length-append, length-set}
+use lib.ListN.{length, take, drop, get_or, length-append}
 use lib.Dec.{leb}
-use lib.Seq.{paste, paste-zero, paste-suc, take-length, length-take-le, sets-eq}
+use lib.Seq.{sets, take-length, length-take-le, length-sets, sets-eq}
+use borrow.Rule.Slice.PartMut.{put_mid}
+use Rattle.std.proofs.lemmas.Slice.{put_mid-paste}
+use Rattle.std.specs.Prelude.{Result, Ok, Err}
 use borrow.Author.Rules.{rules}
 use borrow.Author.Tests.{lt-ltb, le-ltb, leb-true, leb-false}
 use Rattle.io.specs.Counts.{IsPrefixLen}
@@ -16,8 +19,7 @@ use Rattle.io.specs.Digits.{hex_digit_ascii, last_digits, IsDigitCount}
 use Rattle.sheets.specs.Laid.{answer, laid, refused}
 use Rattle.refusals.specs.Refusals.{rule_number}
 use Rattle.refusals.specs.declared.Refusal.{Refusal}
-use Rattle.laying.specs.declared.Answer.{Answer}
-use Rattle.laying.specs.declared.Answer.TheVariants.{Laid, Refused}
+use Rattle.laying.specs.declared.Laid.{Laid}
 use Rattle.laying.specs.Laying.{answered}
 use Rattle.writer.specs.Writes.{Writes, Skips}
 use Rattle.writer.specs.Laws.{then, as_bytes}
@@ -26,39 +28,21 @@ use Rattle.listing.specs.Says.{Spells, Phrases, Lists}
 
 -- ---- bytes
 
--- the first i of the bytes ws, which fit, were set from `at` on
-pub record Puts (ws d₀ d : List ℕ) (at end i : ℕ) : Type 0 where
-  pub within : i ≤ length ws
-  pub ends : end ≡ at + length ws
-  pub fits : end ≤ length d₀
-  pub room : length d ≡ length d₀
-  pub wrote : d ≡ paste d₀ at ws i
+-- if they fit
+put-end : {n at end : ℕ} (d : List ℕ) → Skips n at end → end ≤ length d → length d * 1 < 2 ^ 63 → end ≡ at + n
+put-end d s h l = omega (arith, s.ends)
 
-pub put-start : (ws d : List ℕ) {at end : ℕ} → Skips (length ws) at end → end ≤ length d → length d * 1 < 2 ^ 63 → Puts ws d d at end 0
-put-start ws d {at} s h l = record { within = omega arith; ends = omega (arith, s.ends); fits = h; room = refl; wrote = paste-zero d at ws }
-
-pub put-turn : {ws d₀ d : List ℕ} {at end i : ℕ} → Puts ws d₀ d at end i → i < length ws → Puts ws d₀ (set d (at + i) (get_or ws i 0)) at end (i + 1)
-put-turn {ws} {d₀} {d} {at} {end} {i} p h = record {
-  within = omega arith;
-  ends = p.ends;
-  fits = p.fits;
-  room = length-set d (at + i) _ ∙ p.room;
-  wrote = ap (λ l. set l (at + i) (get_or ws i 0)) p.wrote ∙ paste-suc d₀ at ws i 0 (omega (arith, p.ends, p.fits)) h ∙ rw add-one;
-}
-
-pub put_all : {ws d₀ d : List ℕ} {at end i : ℕ} → Puts ws d₀ d at end i → length ws ≤ i → Writes ws d₀ d at end
-put_all {ws} {d₀} {d} {at} {end} {i} p h =
-    let e : i ≡ length ws = omega (arith, p.within) in
+pub put_all : (ws d : List ℕ) {ys : List ℕ} {at end : ℕ} → Skips (length ws) at end → end ≤ length d → length d * 1 < 2 ^ 63 → ys ≡ ws → Writes ws d (put_mid at (end - at) d ys) at end
+put_all ws d {ys} {at} {end} s h l q =
+    let e : end ≡ at + length ws = put-end d s h l in
+    let w : put_mid at (end - at) d ys ≡ sets d at ws =
+    put_mid-paste at (end - at) d ys ws (length ws) q (omega arith) refl ∙ rw (take-length ws) (sym (sets-eq ws d at (omega arith))) in
     record {
-      ends = rw p.ends refl;
-      onward = omega (arith, p.ends);
-      room = p.room;
-      wrote = λ fits low. p.wrote ∙ rw (e, take-length ws) (sym (sets-eq ws d₀ at fits));
+      ends = rw e refl;
+      onward = omega arith;
+      room = ap length w ∙ length-sets d at ws;
+      wrote = λ fits low. w;
     }
-
--- they do not fit
-pub put-none : (ws d : List ℕ) {at end : ℕ} → Skips (length ws) at end → length d < end → Writes ws d d at end
-put-none ws d s h = record { ends = s.ends; onward = s.onward; room = refl; wrote = λ fits low. absurd (omega (arith, s.ends)) }
 
 -- ---- digits
 
@@ -156,20 +140,20 @@ module _ {a b : List ℕ} {m n : ℕ} {d₀ d₁ d₂ : List ℕ} {p q : ℕ} wh
 
 -- ---- answers
 
-module _ {a : Answer} {d₀ d : List ℕ} {r : ℕ} where
-  pub line-laid : {m n : ℕ} → a ≡ Laid m n → Lists (line_of (laid m n)) d₀ d r → Lists (line_of (answered a)) d₀ d r
+module _ {a : Result Laid Refusal} {d₀ d : List ℕ} {r : ℕ} where
+  pub line-laid : {w : Laid} → a ≡ Ok w → Lists (line_of (laid w.length w.objects)) d₀ d r → Lists (line_of (answered a)) d₀ d r
   unfolding answered
   line-laid e l = rw e l
 
-  pub line_refused : {f : Refusal} {k : ℕ} → a ≡ Refused f → k ≡ rule_number f.rule → Lists (line_of (refused k f.place f.end)) d₀ d r → Lists (line_of (answered a)) d₀ d r
+  pub line_refused : {f : Refusal} {k : ℕ} → a ≡ Err f → k ≡ rule_number f.rule → Lists (line_of (refused k f.place f.end)) d₀ d r → Lists (line_of (answered a)) d₀ d r
   unfolding answered
   line_refused e q l = rw (e, ← q) l
 
 -- the line, and what `Counts` says of its length
-pub listed : (x : List ℕ) (a : Answer) {d₀ d : List ℕ} {r : ℕ} → answered a ≡ answer x 65536 → Lists (line_of (answered a)) d₀ d r
+pub listed : (x : List ℕ) (a : Result Laid Refusal) {d₀ d : List ℕ} {r : ℕ} → answered a ≡ answer x 65536 → Lists (line_of (answered a)) d₀ d r
     → (r ≡ length (line_of (answer x 65536))) × ((d ≡ line_of (answer x 65536) ++ drop r d₀) × IsPrefixLen r d)
 listed x a {d₀} {d} {r} e l =
     let m = rw e at l in
     (m.size, (m.bytes, (m.within, sym (length-take-le r d m.within))))
 
-pub ruleset lists = (rules, put-start, put-turn, put_all, put-none, spell, phrase-of, two-phrases, three-phrases, line-laid, line_refused)
+pub ruleset lists = (rules, spell, phrase-of, two-phrases, three-phrases, line-laid, line_refused)

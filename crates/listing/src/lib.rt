@@ -9,20 +9,16 @@ ghost use Rattle.writer.specs.Writes.{Writes};
 ghost use Rattle.listing.specs.Line.{line_of};
 ghost use Rattle.listing.specs.Says.{Spells, Phrases, Lists};
 
-use laying::Answer;
+use laying::Laid;
+use refusals::Refusal;
 
 // Writes bytes from a cursor on, as the functions of `writer` do.
 fn put(bytes: &[u8], out: &mut [u8], at: usize) -> usize
     ensures { Writes bytes.now out.old out.new at result }
 {
     let end = writer::skip(at, bytes.len());
-    if end > out.len() {
-        return end;
-    }
-    let mut i = 0;
-    while i < bytes.len() {
-        out[at + i] = bytes[i];
-        i += 1;
+    if end <= out.len() {
+        out[at..end].copy_from_slice(bytes);
     }
     end
 }
@@ -66,26 +62,23 @@ fn refused_line(rule: u32, place: usize, end: usize, out: &mut [u8; 80]) -> usiz
 }
 
 // The line of an answer.
-fn line(answer: Answer, out: &mut [u8; 80]) -> usize
+fn line(answer: Result<Laid, Refusal>, out: &mut [u8; 80]) -> usize
     ensures { Lists (line_of (answered answer)) out.old out.new result }
 {
     match answer {
-        Answer::Laid(size, objects) => laid_line(size, objects, out),
-        Answer::Refused(refusal) => {
-            let rule = refusal.rule;
-            refused_line(refusals::number_of(rule), refusal.place, refusal.end, out)
-        }
+        Ok(laid) => laid_line(laid.length, laid.objects, out),
+        Err(refusal) => refused_line(u32::from(refusal.rule), refusal.place, refusal.end, out),
     }
 }
 
 // Lays a text in a sheet of 65,536 bytes, puts the line that says what became of it at the start of out, and answers the line's length.
-// The bytes after the line are as they were.
+// The bytes after the line are as they were. No `write!` makes the line: `fmt` promises its bytes only where it answers Ok, and the clauses
+// `value` and `out_after` hold for every text.
 pub fn list(text: &[u8], out: &mut [u8; 80]) -> usize
     ensures value { result ≡ length (line_of (answer text.now 65536)) }
     ensures out_after { out.new ≡ line_of (answer text.now 65536) ++ drop result out.old }
     ensures prefix_len { IsPrefixLen result out.new }
 {
     let mut sheet = [0u8; 65536];
-    let answer = laying::lay(text, &mut sheet);
-    line(answer, out)
+    line(laying::lay(text, &mut sheet), out)
 }

@@ -1,5 +1,5 @@
 -- Numbers put one by one into a row of a set.
-use Prim.Native.Nat.{ℕ, ◌+◌, ◌-◌, ◌*◌, ◌≤◌, ◌<◌}
+use Prim.Native.Nat.{ℕ, ◌+◌, ◌*◌, ◌≤◌, ◌<◌}
 use native.Mathlib.Omega.{arith}
 use native.Mathlib.Numerals.{add-one}
 use mathlib.Core.Path.{◌≡◌, refl, sym, ap, ◌∙◌}
@@ -8,7 +8,8 @@ use mathlib.Core.List.{List, [], ◌∷◌}
 use lib.ListN.{length, get_or, drop, drop_of_length-le}
 use lib.Seq.{drop-cons}
 use lib.Dec.{eqb, ltb}
-use borrow.Author.Tests.{not-true, not-false, lt-ltb, le-ltb, ltb-true, ne_eqb, eq-eqb, eqb-true, eqb-false}
+use borrow.Author.Tests.{lt-ltb, le-ltb, ltb-true, ne_eqb, eq-eqb, eqb-true, eqb-false}
+use Rattle.std.specs.List.{list_all}
 use Rattle.grid.specs.Grid.{holds, Puts}
 use Rattle.grid.specs.Laws.{put-other-row}
 use Rattle.words.specs.Words.{has}
@@ -138,7 +139,7 @@ module _ {count row : ℕ} {ns g₀ g : List ℕ} {j : ℕ} {good : Bool} (p : M
 pub whole_row : {g : List ℕ} (n : ℕ) → Whole g → n * 128 < length g → n * 128 + 128 ≤ length g
 whole_row n w h = omega (arith, w.all)
 
-pub answer-past : (g : List ℕ) (own n : ℕ) → length g ≤ n * 128 → false ≡ answers g own n
+pub answer-past : (g : List ℕ) (own n : ℕ) → length g ≤ n * 128 → ltb (n * 128) (length g) ≡ answers g own n
 unfolding answers
 answer-past g own n h = rw (le-ltb (n * 128) (length g) h)
 
@@ -146,24 +147,8 @@ pub answer-told : (g : List ℕ) (own n : ℕ) {f : Bool} → n * 128 < length g
 unfolding answers
 answer-told g own n h i = rw (lt-ltb (n * 128) (length g) h) i
 
-pub record Asking (g : List ℕ) (own : ℕ) (ns : List ℕ) (j : ℕ) : Type 0 where
-  is : answered g own ns ≡ answered g own (drop j ns)
-
-pub asking-begin : (g : List ℕ) (own : ℕ) (ns : List ℕ) → Asking g own ns 0
-asking-begin g own ns = record { is = refl }
-
-module _ {g : List ℕ} {own : ℕ} {ns : List ℕ} {j : ℕ} (p : Asking g own ns j) where
-  module _ {number : ℕ} {f : Bool} (l : j < length ns) (q : number ≡ get_or ns j 0) (i : f ≡ answers g own number) where
-    step : answered g own ns ≡ (f && answered g own (drop (j + 1) ns))
-    unfolding answered
-    step = rw (i, q) (p.is ∙ ap (answered g own) (number-cons ns j l))
-
-    pub asked-open : not f ≡ true → false ≡ answered g own ns
-    asked-open e = sym (step ∙ rw (not-true f e))
-
-    pub asking-turn : not f ≡ false → Asking g own ns (j + 1)
-    asking-turn e = record { is = step ∙ rw (not-false f e) }
-
-  pub asked : length ns ≤ j → true ≡ answered g own ns
-  unfolding answered
-  asked h = sym (p.is ∙ ap (answered g own) (drop_of_length-le ns {i = j} h))
+-- each number of the row is asked for
+pub answered-all : (g : List ℕ) (own : ℕ) (ns : List ℕ) → list_all (answers g own) ns ≡ answered g own ns
+unfolding answered
+answered-all g own [] = refl
+answered-all g own (n ∷ ns) = ap (λ b. answers g own n && b) (answered-all g own ns)

@@ -7,19 +7,12 @@ ghost use Rattle.marks.specs.Marks.{row_of};
 ghost use Rattle.marks.specs.Marks as marks;
 ghost use Rattle.marks.specs.Says.{Whole, MarkGives, RowGives, RowAt, Table, AllGive};
 
-// A word of a table, as a number of full width.
-fn wide(w: u16) -> usize
-    ensures { (result ≡ w) × (result < 65536) }
-{
-    w as usize
-}
-
 // The word j of a table or of a row.
 pub fn word(rows: &[u16], j: usize) -> usize
     requires { j < length rows.now }
     ensures { (result ≡ get_or rows.now j 0) × (result < 65536) }
 {
-    wide(rows[j])
+    usize::from(rows[j])
 }
 
 // The row k of a table.
@@ -27,9 +20,7 @@ pub fn row(rows: &[u16], k: usize) -> &[u16]
     requires { RowAt rows.now k }
     ensures { result.now ≡ row_of rows.now k }
 {
-    let from = word(rows, k);
-    let to = word(rows, k + 1);
-    &rows[from..to]
+    &rows[word(rows, k)..word(rows, k + 1)]
 }
 
 // Puts the number of a listed object into a row of the set. Is it the number of an object, and was it not there?
@@ -37,10 +28,7 @@ pub fn mark(set: &mut [u8], row: usize, number: usize, count: usize) -> bool
     requires { (row * 128 + 128 ≤ length set.old) × (count ≤ 1024) }
     ensures { MarkGives set.old set.new row number count result }
 {
-    if number >= count {
-        return false;
-    }
-    if grid::has(set, row, number) {
+    if number >= count || grid::has(set, row, number) {
         return false;
     }
     grid::put(set, row, number);
@@ -53,10 +41,8 @@ fn mark_row(set: &mut [u8], row: usize, numbers: &[u16], count: usize) -> bool
     ensures { RowGives set.old set.new row numbers.now count result }
 {
     let mut good = true;
-    let mut j = 0;
-    while j < numbers.len() {
-        good = good & mark(set, row, word(numbers, j), count);
-        j += 1;
+    for number in numbers {
+        good &= mark(set, row, usize::from(*number), count);
     }
     good
 }
@@ -67,10 +53,8 @@ pub fn mark_all(set: &mut [u8], rows: &[u16], count: usize) -> bool
     ensures { AllGive rows.now set.old set.new count result }
 {
     let mut good = true;
-    let mut k = 0;
-    while k < count {
-        good = good & mark_row(set, k, row(rows, k), count);
-        k += 1;
+    for k in 0..count {
+        good &= mark_row(set, k, row(rows, k), count);
     }
     good
 }
@@ -80,10 +64,7 @@ pub fn answers(set: &[u8], own: usize, other: usize) -> bool
     requires { (own < 1024) × (other < 65536) × (Whole set.now) }
     ensures { result ≡ marks.answers set.now own other }
 {
-    if other * 128 >= set.len() {
-        return false;
-    }
-    grid::has(set, other, own)
+    other * 128 < set.len() && grid::has(set, other, own)
 }
 
 // Has it the pair (n, own) for each number n of a row?
@@ -91,12 +72,7 @@ pub fn answered(set: &[u8], own: usize, numbers: &[u16]) -> bool
     requires { (own < 1024) × (Whole set.now) }
     ensures { result ≡ marks.answered set.now own numbers.now }
 {
-    let mut j = 0;
-    while j < numbers.len() {
-        if !answers(set, own, word(numbers, j)) {
-            return false;
-        }
-        j += 1;
-    }
-    true
+    numbers
+        .iter()
+        .all(|number| answers(set, own, usize::from(*number)))
 }

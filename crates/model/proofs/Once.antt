@@ -1,5 +1,5 @@
 -- Two models that fit their sheets' fields never share a sheet.
-use Rattle.std.specs.Prelude.{◌≡◌, refl, List, [], ◌∷◌, ◌++◌, Bool, true, false, cond, ◌⊎◌, ℕ, zero, suc, ◌+◌, ◌-◌, ◌^◌, ◌<◌, length, T, eqb, ℤ}
+use Rattle.std.specs.Prelude.{◌≡◌, refl, List, [], ◌∷◌, ◌++◌, Bool, true, false, cond, ◌⊎◌, ℕ, zero, suc, ◌^◌, ◌<◌, length, T, eqb, ℤ}
 use Rattle.std.proofs.Common.{sym, ap, ◌∙◌, subst, append_assoc, append-nil, inl, inr, arith}
 use Rattle.std.proofs.Math.Path.{path_j}
 use Rattle.std.proofs.Math.Option.{Option, none, some}

@@ -1,8 +1,7 @@
 -- Encoders whose values can be read back, as a small kit: numbers in bytes, lists.
-use Rattle.std.specs.Prelude.{◌≡◌, refl, ℕ, zero, suc, ◌+◌, ◌*◌, ◌-◌, ◌/◌, ◌%◌, ◌^◌, ◌<◌, length, ℤ, pos, negsuc}
+use Rattle.std.specs.Prelude.{◌≡◌, refl, ℕ, zero, suc, ◌-◌, ◌/◌, ◌%◌, ◌^◌, ◌<◌, length, ℤ, pos, negsuc}
 use Rattle.std.proofs.Common.{sym, ap, subst, arith}
 use mathlib.Core.List.{List, [], ◌∷◌, ◌++◌, append_assoc}
-use Rattle.std.specs.Int.Signed.{mag}
 use Rattle.utf8.specs.Bytes.{le}
 use Rattle.utf8.specs.Laws.{clash}
 use Rattle.model.specs.Code.{signed, concat_map, All, Holds}

@@ -1,76 +1,34 @@
 -- Loops over the elements of an array and over the members of an object.
-use Prim.Native.Nat.{ℕ, ◌+◌, ◌-◌, ◌≤◌, ◌<◌}
-use mathlib.Core.Path.{◌≡◌, refl, sym, ap, ◌∙◌}
-use mathlib.Core.Bool.{Bool, true, false, not}
-use mathlib.Core.List.{List, ◌∷◌}
-use mathlib.Core.Option.{some}
-use native.Mathlib.Nat.{zero-add}
-use native.Mathlib.Omega.{arith}
-use lib.ListN.{length, get_or}
-use borrow.Author.Rules.{rules}
-use borrow.Author.Tests.{not-true, not-false}
+use Rattle.std.specs.Prelude.{ℕ, ◌+◌, ◌-◌, ◌<◌, ◌≤◌, ◌≡◌, Bool, true, false, List, [], ◌∷◌, length, get_or, Some, None}
+use Rattle.std.specs.Iterator.{Yields, Drains}
+use Rattle.std.proofs.Common.{arith, refl, sym, ap, ◌∙◌, zero-add, rules}
+use Rattle.std.proofs.Math.Option.{some}
 use Rattle.utf8.specs.Utf8.{same}
-use Rattle.strings.specs.Spans.{decode_at}
-use Rattle.json_text.specs.Tree.{Json, Members}
-use Rattle.json_text.specs.Table.{Sub}
-use Rattle.json_text.specs.Laws.{words, sub_within, Left, Past, past, over, ended, MembersLeft, MemberPast, member-past, member-over, members-ended}
-use Rattle.nodes.specs.Access.{is_array_value, is_object_value, listed, elements, pairs, members, Member, name_of, first_named}
+use Rattle.strings.specs.Spans.{Span, decode_at}
+use Rattle.nodes.specs.Access.{elements, pairs, members, Member, name_of, first_named}
 use Rattle.nodes.specs.Says.{Node, Gives, Finds, Seeks}
-use Rattle.nodes.specs.declared.Found.TheVariants.{At, Nothing}
-use Rattle.nodes.specs.Laws.{quoted-at, elements-begin, fields-begin, no-elements, no-members}
-use Rattle.nodes.specs.Reads.{node-room, node-first, node-onward, Walk, walk_of, walk_first, walk-second, walk-room, walk-onward, walk-some, walk-fits, walk-span, walk-less, walk-on}
-use Rattle.nodes.proofs.Firsts.{node-inside}
+use Rattle.nodes.specs.Siblings.{Elements, Names, Steps, StepsPast}
+use Rattle.nodes.specs.Laws.{quoted-at}
+use Rattle.nodes.specs.Walk.{Running, run-begin, run_turn, run-done, RunningNames, names-begin, names-past, names-first, names-second, names-some, names-span, names-turn, names-done}
+use Rattle.nodes.specs.declared.Siblings.{Siblings}
 
--- Counting: of the elements of the array at i, `found` stand before k
-pub record Counts (x t : List ℕ) (i n k found : ℕ) : Type 0 where
-  pub node : Node x t i
-  pub within : n ≤ length t
-  pub few : found ≤ k
-  pub left : (v : Json) → Sub x t i v → Left x t k n (λ vs. found + length (listed vs) ≡ length (elements v))
+-- Counting: what calls of the iterator gave, and what is left
+counted : {x t : List ℕ} {i : ℕ} (xs : List ℕ) {s u : Siblings} (n m : ℕ) → m ≡ n + length xs → Running x t i s (λ all left. n + length left ≡ length all)
+    → Yields Steps s xs u → Running x t i u (λ all left. m + length left ≡ length all)
+counted [] n m q w y = let z : m ≡ n = omega (arith, q) in rw (z, ← y) w
+counted (k ∷ xs) n m q w y =
+    counted xs (n + 1) m (omega (arith, q)) (run_turn w y.1 (λ all left. n + 1 + length left ≡ length all) (λ all v vs z o. omega (arith, o))) y.2
 
-module _ {x t : List ℕ} {i : ℕ} where
-  pub count_none : {r : Bool} → Gives is_array_value x t i r → not r ≡ true → Gives (λ v. length (elements v)) x t i 0
-  count_none {r} g e = record { is = λ v s. sym (ap length (no-elements v (sym (g.is v s) ∙ not-true r e))) }
+pub count-is : {x t : List ℕ} {i r : ℕ} {s : Siblings} → Node x t i → Elements x t i s → (xs : List ℕ) × Drains Steps s xs × (r ≡ length xs)
+    → Gives (λ v. length (elements v)) x t i r
+count-is {r = r} d e h =
+    let w = counted h.0 0 r (omega (arith, h.2)) (run-begin (λ all left. 0 + length left ≡ length all) d e refl (λ l. zero-add _)) h.1.1.1 in
+    record { is = λ v z. let o = run-done w h.1.1.2.0 z in omega (arith, o) }
 
-  pub count-begin : {r : Bool} {n : ℕ} → Node x t i → Gives is_array_value x t i r → not r ≡ false → n ≡ get_or t (i + 2) 0 → Counts x t i n (i + 3) 0
-  count-begin {r} {n} d g e q =
-      let w = words d.stands in
-      record {
-        node = d;
-        within = omega (arith, w.next, sub_within d.stands);
-        few = omega arith;
-        left = λ v s. rw q (elements-begin (λ vs. 0 + length vs ≡ length (elements v)) s (sym (g.is v s) ∙ not-false r e) (zero-add _));
-      }
+-- Searching: the first member of that name is the first of those that are left
+pub record Searching (x t : List ℕ) (i : ℕ) (name : List ℕ) (s : Siblings) : Type 0 where
+  pub run : RunningNames x t i s (λ all left. first_named name all ≡ first_named name left)
 
-  module _ {n k found : ℕ} (c : Counts x t i n k found) where
-    turn : k < n → Past x t k n (λ vs. found + length (listed vs) ≡ length (elements c.node.value))
-    turn l = past (c.left c.node.value c.node.stands) l
-
-    pub count_room : k < n → k + 2 < length t
-    count_room l = (turn l).word.room
-
-    pub count_fits : k < n → found + 1 ≤ length t
-    count_fits l = omega (arith, (turn l).word.room, c.few)
-
-    pub count_less : {m : ℕ} → k < n → m ≡ get_or t (k + 2) 0 → n - m < n - k
-    count_less l q = let u = turn l in omega (arith, u.more, u.within)
-
-    pub count-again : {m : ℕ} → k < n → m ≡ get_or t (k + 2) 0 → Counts x t i n m (found + 1)
-    unfolding listed
-    count-again l q =
-        let u = turn l in
-        record { node = c.node; within = c.within; few = omega (arith, u.more, c.few); left = λ v s. let p = past (c.left v s) l in rw q (over p (omega (arith, p.holds))) }
-
-    pub count-done : n ≤ k → Gives (λ v. length (elements v)) x t i found
-    unfolding listed
-    count-done h = record { is = λ v s. let e = ended (c.left v s) h in omega arith }
-
--- Searching: the first member of that name is the first of those from k on
-pub record Searches (x t : List ℕ) (i : ℕ) (name : List ℕ) (n k : ℕ) : Type 0 where
-  pub walk : Walk x t n k
-  pub left : (v : Json) → Sub x t i v → MembersLeft x t k n (λ ms. first_named name (members v) ≡ first_named name (pairs ms))
-
--- the first member has that name, or it has not
 name-hit : (name : List ℕ) (b : Bool) (m : Member) (ms : List Member) → b ≡ true → b ≡ same name (name_of m) → first_named name (m ∷ ms) ≡ some m.1
 unfolding first_named
 name-hit name b m ms e q = rw (← q, e)
@@ -79,65 +37,51 @@ name-miss : (name : List ℕ) (b : Bool) (m : Member) (ms : List Member) → b �
 unfolding first_named
 name-miss name b m ms e q = rw (← q, e)
 
--- the name where the loop is, decoded
-named : {x t : List ℕ} {k n : ℕ} {P : Members → Type 0} (u : MemberPast x t k n P) → name_of (u.key, u.value) ≡ decode_at x (get_or t k 0 + 1) (get_or t (k + 1) 0 - 1)
-unfolding name_of
-named u = (quoted-at u.quoted).text
+module _ {x t : List ℕ} {i : ℕ} {name : List ℕ} {s : Siblings} where
+  pub member-begin : {r : Siblings} → Node x t i → Names x t i r → s ≡ r → Searching x t i name s
+  member-begin d e q = record { run = names-begin (λ all left. first_named name all ≡ first_named name left) d e q (λ l. refl) }
 
-pub member-none : {x t : List ℕ} {i : ℕ} (name : List ℕ) {r : Bool} → Gives is_object_value x t i r → not r ≡ true → Seeks (λ v. first_named name (members v)) x t i Nothing
-unfolding Finds first_named
-member-none name {r} g e = record { finds = λ v s. ap (first_named name) (no-members v (sym (g.is v s) ∙ not-true r e)) }
+  module _ (w : Searching x t i name s) where
+    module _ {k : ℕ} {u : Siblings} (g : StepsPast s k u) where
+      pub key-first : k < length t
+      key-first = names-first w.run g
 
-module _ {x t : List ℕ} {i : ℕ} {name : List ℕ} where
-  pub member-begin : {r : Bool} {n : ℕ} → Node x t i → Gives is_object_value x t i r → not r ≡ false → n ≡ get_or t (i + 2) 0 → Searches x t i name n (i + 3)
-  member-begin {r} {n} d g e q = record { walk = walk_of (begun d.value d.stands); left = begun }
-    where
-      begun : (v : Json) → Sub x t i v → MembersLeft x t (i + 3) n (λ ms. first_named name (members v) ≡ first_named name (pairs ms))
-      begun v s = rw q (fields-begin (λ ms. first_named name (members v) ≡ first_named name ms) s (sym (g.is v s) ∙ not-false r e) refl)
+      pub key-second : k + 1 < length t
+      key-second = names-second w.run g
 
-  module _ {n k : ℕ} (c : Searches x t i name n k) where
-    module _ {p e : ℕ} {b : Bool} (l : k < n) (q : p ≡ get_or t k 0) (r : e ≡ get_or t (k + 1) 0) (s : b ≡ same name (decode_at x (p + 1) (e - 1))) where
-      tested : {P : Members → Type 0} (u : MemberPast x t k n P) → b ≡ same name (name_of (u.key, u.value))
-      tested u = rw (named u, ← q, ← r) s
+      pub key-some : {e : ℕ} → e ≡ get_or t (k + 1) 0 → 1 ≤ e
+      key-some q = names-some w.run g q
 
-      pub member-found : b ≡ true → Seeks (λ v. first_named name (members v)) x t i (At (k + 3))
-      unfolding Finds pairs
-      member-found h = record { finds = λ v z. let u = member-past (c.left v z) l in (u.value, u.holds ∙ name-hit name b (u.key, u.value) (pairs u.others) h (tested u), u.stands) }
+      module _ {p e : ℕ} (q : p ≡ get_or t k 0) where
+        pub key-span : e ≡ get_or t (k + 1) 0 → Span x (p + 1) (e - 1)
+        key-span r = names-span w.run g q r
 
-      pub member-again : {m : ℕ} → b ≡ false → m ≡ get_or t (k + 3 + 2) 0 → Searches x t i name n m
-      unfolding pairs
-      member-again h o =
-          record {
-            walk = walk-on c.walk l o;
-            left = λ v z.
-                let u = member-past (c.left v z) l in
-                rw o (member-over u (u.holds ∙ name-miss name b (u.key, u.value) (pairs u.others) h (tested u)));
+        module _ {b : Bool} (r : e ≡ get_or t (k + 1) 0) (h : b ≡ same name (decode_at x (p + 1) (e - 1))) where
+          pub member-found : b ≡ true → Seeks (λ v. first_named name (members v)) x t i (Some (k + 3))
+          unfolding Finds pairs name_of
+          member-found o = record {
+            finds = λ v z.
+                let y = names-past w.run g z in
+                let n : b ≡ same name (name_of (y.key, y.value)) = rw ((quoted-at y.quoted).text, ← q, ← r) h in
+                (y.value, y.holds ∙ name-hit name b (y.key, y.value) (pairs y.others) o n, y.stands);
           }
 
-    pub member-done : n ≤ k → Seeks (λ v. first_named name (members v)) x t i Nothing
-    unfolding Finds pairs first_named
-    member-done h = record { finds = λ v s. members-ended (c.left v s) h }
+          pub member-again : b ≡ false → Searching x t i name u
+          unfolding name_of
+          member-again o = record {
+            run = names-turn w.run g (λ all left. first_named name all ≡ first_named name left)
+                (λ all m ms z n p. p ∙ name-miss name b m ms o (rw (n, ← q, ← r) h));
+          }
+
+    pub member-done : {u : Siblings} → (s.end ≤ s.at) × (u ≡ s) → Seeks (λ v. first_named name (members v)) x t i None
+    unfolding Finds first_named
+    member-done h = record { finds = λ v z. names-done w.run h.0 z }
 
 pub ruleset loops = (
   rules,
-  node-room,
-  node-first,
-  node-onward,
-  node-inside,
-  count_none,
-  count-begin,
-  count_room,
-  count_less,
-  count-again,
-  count-done,
   member-begin,
-  member-again,
-  walk_first,
-  walk-second,
-  walk-room,
-  walk-onward,
-  walk-some,
-  walk-fits,
-  walk-span,
-  walk-less,
+  key-first,
+  key-second,
+  key-some,
+  key-span,
 )

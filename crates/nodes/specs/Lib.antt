@@ -2,6 +2,7 @@
 pub mod Faults
 pub mod Access
 pub mod Says
+pub mod Siblings
 pub mod Laws
 pub mod Reads
 pub mod Walk

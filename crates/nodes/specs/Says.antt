@@ -3,8 +3,8 @@ use Rattle.std.specs.Prelude.{◌≡◌, List, ℕ, ◌≤◌, length}
 use Rattle.std.proofs.Math.Option.{Option, none, some}
 use Rattle.json_text.specs.Tree.{Json}
 use Rattle.json_text.specs.Table.{Sub, size}
-use Rattle.nodes.specs.declared.Found.{Found}
-use Rattle.nodes.specs.declared.Found.TheVariants.{At, Nothing}
+use Rattle.std.specs.Prelude.{Some, None}
+use Rattle.std.specs.Prelude as code
 
 -- some value of the text x, which is short enough (rule 1), stands at the node i of the table t
 pub record Node (x t : List ℕ) (i : ℕ) : Type 0 where
@@ -23,10 +23,14 @@ pub record Root (x t : List ℕ) (n : ℕ) : Type 0 where
 pub record Gives {A : Type 0} (f : Json → A) (x t : List ℕ) (i : ℕ) (r : A) : Type 0 where
   pub is : (v : Json) → Sub x t i v → r ≡ f v
 
+-- what a search gives: the node of what is sought, or none
+abbrev pub Found : Type 0
+Found = code.Option ℕ
+
 -- a search for a value found its node, or there is no such value
 unfoldable pub Finds : List ℕ → List ℕ → Option Json → Found → Type 0
-Finds x t o (At k) = (v : Json) × (o ≡ some v) × Sub x t k v
-Finds x t o Nothing = o ≡ none
+Finds x t o (Some k) = (v : Json) × (o ≡ some v) × Sub x t k v
+Finds x t o None = o ≡ none
 
 -- what was found is the answer to some search
 pub record Sought (x t : List ℕ) (found : Found) : Type 0 where

@@ -4,7 +4,7 @@ use Rattle.std.proofs.Common.{arith, sym, ap, ◌∙◌}
 use Rattle.utf8.specs.Laws.{clash}
 use Rattle.json_text.specs.Tree.{Json, Items, Members, Name}
 use Rattle.json_text.specs.Table.{size, sizes, widths, Words, lead, Sub, null, bool, num, str, arr, obj, Subs, nil, cons, Fields, last, field}
-use Rattle.json_text.specs.Laws.{kind_of, kind-of, words, size-pos}
+use Rattle.json_text.specs.Laws.{kind_of, kind-of, size-pos}
 
 same-lead : (b c : Bool) → lead b ≡ lead c → b ≡ c
 same-lead true true h = refl

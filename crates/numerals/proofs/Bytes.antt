@@ -1,22 +1,29 @@
 -- Bytes one at a time: what the code's tests of a byte say, and what one byte more does to the definitions.
-use Prim.Native.Nat.{ℕ, ◌+◌, ◌-◌, ◌*◌, ◌^◌, ◌/◌, ◌≤◌, ◌<◌}
-use native.Mathlib.Omega.{arith}
-use native.Mathlib.Numerals.{add-one}
-use mathlib.Core.Path.{◌≡◌, refl, sym, ap, ◌∙◌}
-use mathlib.Core.Logic.{◌⊎◌, inl, inr}
-use mathlib.Core.Bool.{Bool, true, false, cond, not, ◌&&◌, ◌||◌}
-use mathlib.Core.List.{List, [], ◌∷◌, ◌++◌}
-use lib.ListN.{length, get_or}
-use lib.Seq.{slice, slice-cons, slice_empty}
-use lib.Dec.{eqb}
-use borrow.Author.Tests.{ne_eqb, le-leb, lt-leb, not-true, not-false}
-use borrow.Author.Rules.{rules}
+use Rattle.std.proofs.Common.{ℕ, ◌+◌, ◌-◌, ◌*◌, ◌^◌, ◌≤◌, ◌<◌, min, Bool, true, false, cond, not, ◌&&◌, ◌||◌, Some, None, List, [], ◌∷◌, ◌++◌, length, get_or, take, drop, drop-cons, drop_of_length-le, add-one, arith, refl, sym, ap, ◌∙◌, ◌≡◌, leb, leb-true, eqb, leb-false, le-leb, inl, inr, ◌⊎◌, ne_eqb}
+use Rattle.std.proofs.lemmas.Bool.{lt-leb}
+use Rattle.std.proofs.lemmas.List.{drop-take}
+use Rattle.std.proofs.Math.Seq.{slice}
+use Rattle.std.specs.List.{list_all}
+use mir.Val.{bool_byte}
 use Rattle.utf8.specs.Ascii.{is_digit}
 use Rattle.numerals.specs.Numerals.{is_point, is_letter, is_integer, digits, natural, negative}
-use Rattle.numerals.proofs.Laws.{digit_low, digit-high}
 use Rattle.numerals.specs.Reading.{saturated}
 
 -- ---- the kinds of byte
+
+pub or-true : (p : Bool) → p || true ≡ true
+or-true true = refl
+or-true false = refl
+
+module _ (b : ℕ) where
+  pub a-letter : (b ≡ 69) ⊎ (b ≡ 101) → true ≡ is_letter b
+  unfolding is_letter
+  a-letter (inl e) = rw e
+  a-letter (inr e) = rw e
+
+  pub no-letter : ((b ≡ 69) ⊎ (b ≡ 101) → ⊥) → false ≡ is_letter b
+  unfolding is_letter
+  no-letter h = rw (ne_eqb b 69 (λ e. h (inl e)), ne_eqb b 101 (λ e. h (inr e)))
 
 module _ (b : ℕ) where
   pub is-digit : 48 ≤ b → b < 58 → true ≡ is_digit b
@@ -27,61 +34,40 @@ module _ (b : ℕ) where
   unfolding is_digit
   under-digit l = rw (lt-leb 48 b l)
 
-  pub over-digit : 48 ≤ b → 58 ≤ b → false ≡ is_digit b
-  unfolding is_digit
-  over-digit l h = rw (le-leb 48 b l, lt-leb b 57 h)
+-- a flag as a number
+pub flag-value : (t : Bool) → bool_byte t ≡ cond t 1 0
+flag-value true = refl
+flag-value false = refl
 
-  pub is-letter : (b ≡ 69) ⊎ (b ≡ 101) → true ≡ is_letter b
-  unfolding is_letter
-  is-letter (inl e) = rw e
-  is-letter (inr e) = rw e
+-- a byte by the answer of `digit`
+pub digit-value : (b d : ℕ) (y : Bool) → Some d ≡ cond y (Some (b - 48)) None → (true ≡ y) × (d ≡ b - 48)
+digit-value b d true e = (refl, cc)
+digit-value b d false e = cc
 
-  pub no-letter : ((b ≡ 69) ⊎ (b ≡ 101) → ⊥) → false ≡ is_letter b
-  unfolding is_letter
-  no-letter h = rw (ne_eqb b 69 (λ e. h (inl e)), ne_eqb b 101 (λ e. h (inr e)))
+pub digit-none : (b : ℕ) (y : Bool) → None ≡ cond y (Some (b - 48)) None → false ≡ y
+digit-none b true e = cc
+digit-none b false e = refl
 
--- what a test of a flag that a call gave says of the call's own test
-module _ (r t : Bool) where
-  pub flag-yes : r ≡ true → r ≡ t → true ≡ t
-  flag-yes e q = sym e ∙ q
+-- ---- a part of a text
 
-  pub flag-no : r ≡ false → r ≡ t → false ≡ t
-  flag-no e q = sym e ∙ q
+pub slice-of : (text : List ℕ) (at end : ℕ) → at ≤ end → take (end - at) (drop at text) ≡ slice at end text
+slice-of text at end h = let e : at + (end - at) ≡ end = omega arith in sym (drop-take at (end - at) text) ∙ ap (λ n. drop at (take n text)) e
 
-  pub flag-not-yes : not r ≡ false → r ≡ t → true ≡ t
-  flag-not-yes e q = sym (not-false r e) ∙ q
+pub drop-next : (raw : List ℕ) (i : ℕ) → i < length raw → drop i raw ≡ get_or raw i 0 ∷ drop (i + 1) raw
+drop-next raw i h = rw (drop-cons raw i 0 h, add-one i)
 
-  pub flag-not-no : not r ≡ true → r ≡ t → false ≡ t
-  flag-not-no e q = sym (not-true r e) ∙ q
+-- ---- all bytes
 
--- ---- the bytes from i to end
+neither : (p q : Bool) → (not p && not q) ≡ not (p || q)
+neither true q = refl
+neither false q = refl
 
-module _ (text : List ℕ) (i end : ℕ) (h : i < end) (k : end ≤ length text) where
-  pub slice-next : slice i end text ≡ get_or text i 0 ∷ slice (i + 1) end text
-  slice-next = rw (slice-cons i end text 0 h k, add-one i)
-
-pub slice_out : (text : List ℕ) (i end : ℕ) → i ≤ end → end ≤ i → slice i end text ≡ []
-slice_out text i end h k = let e : i ≡ end = omega arith in rw e (slice_empty end text)
-
--- ---- integers
-
-pub or-true : (p : Bool) → p || true ≡ true
-or-true true = refl
-or-true false = refl
+pub all-plain : (raw : List ℕ) → list_all (λ b. not (eqb b 46) && not (is_letter b)) raw ≡ is_integer raw
+unfolding is_integer is_point
+all-plain [] = refl
+all-plain (b ∷ s) = rw (neither (eqb b 46) (is_letter b), all-plain s)
 
 module _ (b : ℕ) (s : List ℕ) where
-  integer-point : b ≡ 46 → is_integer (b ∷ s) ≡ false
-  unfolding is_integer
-  integer-point e = rw e
-
-  integer-letter : true ≡ is_letter b → is_integer (b ∷ s) ≡ false
-  unfolding is_integer
-  integer-letter e = ap (λ t. not (is_point b || t) && is_integer s) (sym e) ∙ rw or-true
-
-  integer-more : (b ≡ 46 → ⊥) → false ≡ is_letter b → is_integer (b ∷ s) ≡ is_integer s
-  unfolding is_integer is_point
-  integer-more n e = rw (ne_eqb b 46 n, ← e)
-
   pub digits_more : true ≡ is_digit b → digits (b ∷ s) ≡ (b - 48) ∷ digits s
   unfolding digits
   digits_more e = ap (λ t. cond t ((b - 48) ∷ []) [] ++ digits s) (sym e)
@@ -90,38 +76,21 @@ module _ (b : ℕ) (s : List ℕ) where
   unfolding digits
   digits_same e = ap (λ t. cond t ((b - 48) ∷ []) [] ++ digits s) (sym e)
 
--- the bytes before i have no point and no letter
-pub record Plain (text : List ℕ) (at end i : ℕ) : Type 0 where
-  pub high : i ≤ end
-  pub same : is_integer (slice i end text) ≡ is_integer (slice at end text)
-
-pub plain-start : (text : List ℕ) (at end : ℕ) → at ≤ end → Plain text at end at
-plain-start text at end h = record { high = h; same = refl }
-
-module _ {text : List ℕ} {at end i : ℕ} (p : Plain text at end i) where
-  pub plain_end : end ≤ i → true ≡ is_integer (slice at end text)
-  unfolding is_integer
-  plain_end h = sym (ap is_integer (slice_out text i end p.high h)) ∙ p.same
-
-  module _ (h : i < end) (k : end ≤ length text) where
-    pub plain-point : get_or text i 0 ≡ 46 → false ≡ is_integer (slice at end text)
-    plain-point e = sym (integer-point (get_or text i 0) (slice (i + 1) end text) e) ∙ sym (ap is_integer (slice-next text i end h k)) ∙ p.same
-
-    pub plain-letter : true ≡ is_letter (get_or text i 0) → false ≡ is_integer (slice at end text)
-    plain-letter e = sym (integer-letter (get_or text i 0) (slice (i + 1) end text) e) ∙ sym (ap is_integer (slice-next text i end h k)) ∙ p.same
-
-    pub plain_more : (get_or text i 0 ≡ 46 → ⊥) → false ≡ is_letter (get_or text i 0) → Plain text at end (i + 1)
-    plain_more n e = record { high = omega arith; same = sym (integer-more (get_or text i 0) (slice (i + 1) end text) n e) ∙ sym (ap is_integer (slice-next text i end h k)) ∙ p.same }
-
 -- ---- a sign
 
-pub no_sign : (text : List ℕ) (at end : ℕ) → at ≤ end → at ≡ end → false ≡ negative (slice at end text)
-unfolding negative
-no_sign text at end h e = rw (slice_out text at end h (omega arith))
+module _ (raw : List ℕ) where
+  pub sign-there : get_or raw 0 0 ≡ 45 → true ≡ negative raw
+  unfolding negative
+  sign-there e = rw e
 
-pub a-sign : (text : List ℕ) (at end : ℕ) → at ≤ end → (at ≡ end → ⊥) → end ≤ length text → eqb (get_or text at 0) 45 ≡ negative (slice at end text)
+  pub sign-other : (get_or raw 0 0 ≡ 45 → ⊥) → false ≡ negative raw
+  unfolding negative
+  sign-other n = rw (ne_eqb (get_or raw 0 0) 45 n)
+
+pub sign-empty : (raw : List ℕ) → length raw < 1 → false ≡ negative raw
 unfolding negative
-a-sign text at end h n k = rw (slice-next text at end (omega arith) k)
+sign-empty [] h = refl
+sign-empty (b ∷ s) h = absurd (omega arith)
 
 -- ---- a number
 
@@ -130,62 +99,50 @@ unfolding natural
 natural-low n [] = omega arith
 natural-low n (d ∷ ds) = let h = natural-low (n * 10 + d) ds in omega arith
 
--- the digits before i write n
-pub record Counts (text : List ℕ) (at end n i : ℕ) : Type 0 where
-  pub high : i ≤ end
+-- a number so far may stop at m
+natural-stops : (n m : ℕ) (ds : List ℕ) → min (natural (min n m) ds) m ≡ min (natural n ds) m
+natural-stops n m ds = by (leb n m) refl
+  where
+    by : (y : Bool) → leb n m ≡ y → min (natural (min n m) ds) m ≡ min (natural n ds) m
+    by true e = let h : min n m ≡ n = omega (arith, leb-true n m e) in rw h refl
+    by false e = omega (arith, natural-low (min n m) ds, natural-low n ds, leb-false n m e)
+
+-- the digits before i write n, or a number that is greater, if n is 2^64 - 1
+pub record Counts (raw : List ℕ) (n i : ℕ) : Type 0 where
   pub fits : n < 2 ^ 64
-  pub same : natural n (digits (slice i end text)) ≡ natural 0 (digits (slice at end text))
+  pub same : min (natural n (digits (drop i raw))) (2 ^ 64 - 1) ≡ saturated raw
 
-pub counts_start : (text : List ℕ) (at end : ℕ) → at ≤ end → Counts text at end 0 at
-counts_start text at end h = record { high = h; fits = omega arith; same = refl }
+pub counts_start : (raw : List ℕ) → Counts raw 0 0
+unfolding saturated natural digits
+counts_start raw = record { fits = omega arith; same = refl }
 
-module _ {text : List ℕ} {at end n i : ℕ} (p : Counts text at end n i) where
-  pub counts_end : end ≤ i → n ≡ saturated (slice at end text)
-  unfolding saturated natural digits
+module _ {raw : List ℕ} {n i : ℕ} (p : Counts raw n i) where
+  pub counts_end : length raw ≤ i → n ≡ saturated raw
+  unfolding natural digits
   counts_end h =
-      let e : natural n (digits (slice i end text)) ≡ n = rw (slice_out text i end p.high h) in
-      let q = p.same in
-      omega arith
+      let e : natural n (digits (drop i raw)) ≡ n = rw (drop_of_length-le raw h) refl in
+      omega (arith, p.fits, p.same)
 
-  module _ (h : i < end) (k : end ≤ length text) where
-    pub counts_same : false ≡ is_digit (get_or text i 0) → Counts text at end n (i + 1)
-    counts_same e = record { high = omega arith; fits = p.fits; same = sym (ap (natural n) (ap digits (slice-next text i end h k) ∙ digits_same _ _ e)) ∙ p.same }
+  module _ (h : i < length raw) where
+    pub counts-same : {k : ℕ} → false ≡ is_digit (get_or raw i 0) → k ≡ n → Counts raw k (i + 1)
+    counts-same e q =
+        record {
+          fits = omega (arith, p.fits);
+          same =
+              ap (λ t. min (natural t (digits (drop (i + 1) raw))) (2 ^ 64 - 1)) q
+              ∙ sym (ap (λ t. min (natural n t) (2 ^ 64 - 1)) (ap digits (drop-next raw i h) ∙ digits_same _ _ e))
+              ∙ p.same;
+        }
 
-    counts-digit : true ≡ is_digit (get_or text i 0) → natural (n * 10 + (get_or text i 0 - 48)) (digits (slice (i + 1) end text)) ≡ natural 0 (digits (slice at end text))
+    pub counts-more : {d k : ℕ} → true ≡ is_digit (get_or raw i 0) → d ≡ get_or raw i 0 - 48 → k ≡ min (n * 10 + d) (2 ^ 64 - 1) → Counts raw k (i + 1)
     unfolding natural
-    counts-digit e = sym (ap (natural n) (ap digits (slice-next text i end h k) ∙ digits_more _ _ e)) ∙ p.same
-
-    module _ (e : true ≡ is_digit (get_or text i 0)) {d : ℕ} (q : d ≡ get_or text i 0 - 48) where
-      pub counts-more : n ≤ (18446744073709551615 - d) / 10 → Counts text at end (n * 10 + d) (i + 1)
-      counts-more l = record { high = omega arith; fits = omega (arith, digit-high (get_or text i 0) e); same = rw q (counts-digit e) }
-
-      pub counts-large : (18446744073709551615 - d) / 10 < n → 18446744073709551615 ≡ saturated (slice at end text)
-      unfolding saturated
-      counts-large l = let w = natural-low (n * 10 + (get_or text i 0 - 48)) (digits (slice (i + 1) end text)) in let z = counts-digit e in omega (arith, digit-high (get_or text i 0) e)
-
-pub ruleset bytes = (
-  rules,
-  flag-yes,
-  flag-no,
-  flag-not-yes,
-  flag-not-no,
-  is-digit,
-  under-digit,
-  over-digit,
-  is-letter,
-  no-letter,
-  digit_low,
-  digit-high,
-  plain-start,
-  plain_end,
-  plain-point,
-  plain-letter,
-  plain_more,
-  no_sign,
-  a-sign,
-  counts_start,
-  counts_end,
-  counts_same,
-  counts-more,
-  counts-large,
-)
+    counts-more {d} {k} e q m =
+        record {
+          fits = omega arith;
+          same =
+              ap (λ t. min (natural t (digits (drop (i + 1) raw))) (2 ^ 64 - 1)) m
+              ∙ natural-stops (n * 10 + d) (2 ^ 64 - 1) (digits (drop (i + 1) raw))
+              ∙ ap (λ t. min (natural (n * 10 + t) (digits (drop (i + 1) raw))) (2 ^ 64 - 1)) q
+              ∙ sym (ap (λ t. min (natural n t) (2 ^ 64 - 1)) (ap digits (drop-next raw i h) ∙ digits_more _ _ e))
+              ∙ p.same;
+        }

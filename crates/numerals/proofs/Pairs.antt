@@ -8,7 +8,7 @@ use mathlib.Core.Logic.{◌⊎◌, inl, inr, ⊎_elim}
 use mathlib.Core.Option.{none, some}
 use mathlib.Core.List.{List, [], ◌∷◌}
 use lib.ListN.{length}
-use lib.Seq.{slice}
+use Rattle.std.proofs.Common.{Option, Some, None, drop}
 use lib.Dec.{ltb}
 use lib.IntN.{ℤ, pos, negsuc, nat_abs, ◌+ℤ◌, ◌-ℤ◌}
 use mir.Syntax.{w64}
@@ -20,13 +20,8 @@ use Rattle.utf8.specs.Ascii.{is_digit}
 use Rattle.numerals.specs.Numerals.{Decimal, Trimmed, more, trimmed, is_point, is_letter, digits, natural, negative, signed, after, mantissa, places, exponent, scaled, decimal, in_range, pair_of}
 use Rattle.numerals.proofs.Laws.{digit_low, after-no, after-yes, nat_abs-signed}
 use Rattle.numerals.specs.Reading.{pair_in, saturated, IsWhole, digit, taken, sums, nothing, IsRead, Reads, Reaches, power_of}
-use Rattle.numerals.specs.declared.Numeral.TheVariants.{Pair, Out}
 use Rattle.numerals.specs.declared.Whole.{Whole}
 use Rattle.numerals.specs.declared.Sum.{Sum}
-use Rattle.numerals.specs.declared.Mantissa.{Mantissa}
-use Rattle.numerals.specs.declared.Mantissa.TheVariants.{Read, Large}
-use Rattle.numerals.specs.declared.Power.{Power}
-use Rattle.numerals.specs.declared.Power.TheVariants.{Ranged, Beyond}
 use Rattle.numerals.proofs.Bytes.{digits_more, digits_same}
 use Rattle.numerals.proofs.Wholes.{signed-fits}
 use Rattle.numerals.proofs.Powers.{beyond-up, beyond-down, power-up, power-down}
@@ -107,8 +102,8 @@ either n m = by-test (ltb n m) refl
 module _ (z p : ℕ) (zl : z < 2 ^ 63) (pl : p < 2 ^ 63) where
   big : (neg : Bool) (n : ℕ) → 2 ^ 64 - 1 ≤ n → 22 < nat_abs (power_of z p neg n)
   unfolding Reaches
-  big true n h = subst (λ t. Reaches t Beyond) (sym (power-down z p n)) (beyond-down z (n + p) (omega arith) (omega arith))
-  big false n h = subst (λ t. Reaches t Beyond) (sym (power-up z p n)) (beyond-up (z + n) p (omega arith) (omega arith))
+  big true n h = subst (λ t. Reaches t None) (sym (power-down z p n)) (beyond-down z (n + p) (omega arith) (omega arith))
+  big false n h = subst (λ t. Reaches t None) (sym (power-up z p n)) (beyond-up (z + n) p (omega arith) (omega arith))
 
   module _ (neg : Bool) (n : ℕ) where
     beyond-exact : 22 < nat_abs (power_of z p neg (min n (2 ^ 64 - 1))) → 22 < nat_abs (power_of z p neg n)
@@ -186,34 +181,34 @@ module _ (raw : List ℕ) (s : Sum) (e : s ≡ sums nothing (mantissa raw)) wher
   large : 10 ^ 15 ≤ s.m → none ≡ pair_of raw
   large h = pair-none raw _ (decimal-other (omega arith)) (range-large (record { m = signed (negative raw) s.m; e = exact }) (rw (nat_abs-signed (negative raw) s.m) h))
 
-pub pair-large : (text : List ℕ) (at end : ℕ) {r : Mantissa} → r ≡ Large → Reads text at end r → pair_in Out ≡ pair_of (slice at end text)
+pub pair-large : (raw : List ℕ) → Reads raw None → pair_in None ≡ pair_of raw
 unfolding pair_in Reads
-pair-large text at end q h = large (slice at end text) (sums nothing (mantissa (slice at end text))) refl (subst (Reads text at end) q h)
+pair-large raw h = large raw (sums nothing (mantissa raw)) refl h
 
-module _ (text : List ℕ) (at end : ℕ) {r : Mantissa} {s : Sum} {next : ℕ} (q : r ≡ Read s next) (h : Reads text at end r) where
-  is_read : IsRead text at end s next
+module _ (raw : List ℕ) (s : Sum) (next : ℕ) (h : Reads raw (Some (s, next))) where
+  is_read : IsRead raw s next
   unfolding Reads
-  is_read = subst (Reads text at end) q h
+  is_read = h
 
-  pub next-high : next ≤ end
+  pub next-high : next ≤ length raw
   next-high = is_read.high
 
   pub m-fits : s.m < 9223372036854775808
   m-fits = let l = is_read.room.m in omega arith
 
-  pub pair-zero : s.m ≡ 0 → pair_in (Pair (pos 0) (pos 0)) ≡ pair_of (slice at end text)
+  pub pair-zero : s.m ≡ 0 → pair_in (Some (pos 0, pos 0)) ≡ pair_of raw
   unfolding pair_in
   pair-zero z =
-      pair-some (slice at end text) (record { m = pos 0; e = pos 0 }) (decimal-zero (slice at end text) s is_read.sum z)
+      pair-some raw (record { m = pos 0; e = pos 0 }) (decimal-zero raw s is_read.sum z)
       (range-yes (record { m = pos 0; e = pos 0 }) (omega arith) (omega arith))
 
-  module _ (n : s.m ≡ 0 → ⊥) {w : Whole} (v : IsWhole (slice next end text) w) where
+  module _ (n : s.m ≡ 0 → ⊥) {w : Whole} (v : IsWhole (drop next raw) w) where
     -- the sign and the magnitude of the exponent, and the power that the exponent gives, as they are and as they were read
     minus : Bool
-    minus = negative (after is_letter (slice at end text))
+    minus = negative (after is_letter raw)
 
     size : ℕ
-    size = natural 0 (digits (after is_letter (slice at end text)))
+    size = natural 0 (digits (after is_letter raw))
 
     read-power : ℤ
     read-power = power_of s.zeros s.places w.negative w.magnitude
@@ -224,33 +219,32 @@ module _ (text : List ℕ) (at end : ℕ) {r : Mantissa} {s : Sum} {next : ℕ} 
         ap (λ b. power_of s.zeros s.places b w.magnitude) (v.sign ∙ ap negative is_read.rest)
         ∙ ap (power_of s.zeros s.places minus) (v.size ∙ ap saturated is_read.rest)
 
-    beyond : 22 < nat_abs read-power → none ≡ pair_of (slice at end text)
+    beyond : 22 < nat_abs read-power → none ≡ pair_of raw
     unfolding minus size exact
     beyond b =
         let a = beyond-exact s.zeros s.places is_read.room.zeros is_read.room.places minus size (subst (λ k. 22 < nat_abs k) stopped b) in
-        pair-none (slice at end text) _ (decimal-other (slice at end text) s is_read.sum n) (range-beyond _ a)
+        pair-none raw _ (decimal-other raw s is_read.sum n) (range-beyond _ a)
 
-    ranged : nat_abs read-power ≤ 22 → some (record { m = signed (negative (slice at end text)) s.m; e = read-power }) ≡ pair_of (slice at end text)
+    ranged : nat_abs read-power ≤ 22 → some (record { m = signed (negative raw) s.m; e = read-power }) ≡ pair_of raw
     unfolding minus size exact
     ranged b =
         let k = ranged-exact s.zeros s.places is_read.room.zeros is_read.room.places minus size (subst (λ k. nat_abs k ≤ 22) stopped b) in
-        let x : read-power ≡ exact (slice at end text) s is_read.sum = stopped ∙ ap (power_of s.zeros s.places minus) k in
+        let x : read-power ≡ exact raw s is_read.sum = stopped ∙ ap (power_of s.zeros s.places minus) k in
         pair-some
-        (slice at end text)
-        (record { m = signed (negative (slice at end text)) s.m; e = read-power })
-        (decimal-other (slice at end text) s is_read.sum n ∙ (λ i. record { m = signed (negative (slice at end text)) s.m; e = sym x i }))
-        (range-yes _ (rw (nat_abs-signed (negative (slice at end text)) s.m) is_read.room.m) b)
+        raw
+        (record { m = signed (negative raw) s.m; e = read-power })
+        (decimal-other raw s is_read.sum n ∙ (λ i. record { m = signed (negative raw) s.m; e = sym x i }))
+        (range-yes _ (rw (nat_abs-signed (negative raw) s.m) is_read.room.m) b)
 
-    pub pair-beyond : {t : Power} → t ≡ Beyond → Reaches (power_of s.zeros s.places w.negative w.magnitude) t → pair_in Out ≡ pair_of (slice at end text)
+    pub pair-beyond : Reaches (power_of s.zeros s.places w.negative w.magnitude) None → pair_in None ≡ pair_of raw
     unfolding pair_in Reaches read-power
-    pair-beyond f p = beyond (subst (Reaches read-power) f p)
+    pair-beyond p = beyond p
 
-    pub pair-ranged : {t : Power} {e m : ℤ} {neg : Bool} → t ≡ Ranged e → Reaches (power_of s.zeros s.places w.negative w.magnitude) t
-        → neg ≡ negative (slice at end text) → m ≡ signed neg s.m → pair_in (Pair (to_z w64 (of_z w64 m)) (to_z w64 (of_z w64 e))) ≡ pair_of (slice at end text)
+    pub pair-ranged : (e : ℤ) {m : ℤ} {neg : Bool} → Reaches (power_of s.zeros s.places w.negative w.magnitude) (Some e) → neg ≡ negative raw → m ≡ signed neg s.m
+        → pair_in (Some (to_z w64 (of_z w64 m), to_z w64 (of_z w64 e))) ≡ pair_of raw
     unfolding pair_in Reaches read-power
-    pair-ranged {t} {e} {m} {neg} f p g x =
-        let b = subst (Reaches read-power) f p in
-        let y : to_z w64 (of_z w64 m) ≡ signed (negative (slice at end text)) s.m = rw x (to_z-of_z (signed-fits neg s.m m-fits)) ∙ ap (λ b. signed b s.m) g in
+    pair-ranged e {m} {neg} b g x =
+        let y : to_z w64 (of_z w64 m) ≡ signed (negative raw) s.m = rw x (to_z-of_z (signed-fits neg s.m m-fits)) ∙ ap (λ b. signed b s.m) g in
         let z : to_z w64 (of_z w64 e) ≡ read-power = rw b.0 (to_z-of_z (ranged-fits read-power b.1)) in
         ap some (λ i. record { m = y i; e = z i }) ∙ ranged b.1
 

@@ -6,18 +6,16 @@ use mathlib.Core.Path.{◌≡◌, refl, sym, ap, ◌∙◌}
 use mathlib.Core.Bool.{Bool, true, false, cond, ◌&&◌, and-false}
 use mathlib.Core.List.{List, [], ◌∷◌, ◌++◌}
 use lib.ListN.{length, get_or}
-use lib.Seq.{slice, length-slice}
+use Rattle.std.proofs.Common.{Option, Some, None, is_some, drop, drop_of_length-le}
 use lib.Dec.{eqb, ltb}
 use lib.IntN.{pos}
-use mir.Syntax.{w64}
-use mir.Val.{Fits}
 use borrow.Author.Tests.{ne_eqb, eq-eqb, lt-ltb, le-ltb}
 use Rattle.utf8.specs.Ascii.{is_digit}
 use Rattle.utf8.specs.Laws.{never}
 use Rattle.numerals.specs.Numerals.{is_point, is_letter, is_integer, integer, digits, natural, negative, signed, fits32}
 use Rattle.numerals.proofs.Laws.{digit-high}
 use Rattle.numerals.specs.Reading.{all_digits, quick_of, is_short, Quick, Short}
-use Rattle.numerals.proofs.Bytes.{bytes, slice-next, slice_out, digits_more}
+use Rattle.numerals.proofs.Bytes.{drop-next, digits_more}
 
 -- a digit is no sign, no point and no letter
 module _ (b : ℕ) (e : true ≡ is_digit b) where
@@ -50,82 +48,73 @@ pub digits-value : (raw : List ℕ) (n : ℕ) → all_digits raw ≡ true → n 
 unfolding integer signed
 digits-value raw n e q = rw (digits-plus raw e, q)
 
--- ---- the bytes before i are digits
+-- ---- the digits before i write n, which has no more digits than they
 
-pub record Digital (text : List ℕ) (at end i : ℕ) : Type 0 where
-  pub high : i ≤ end
-  pub same : all_digits (slice i end text) ≡ all_digits (slice at end text)
+pub record Quickly (raw : List ℕ) (n i : ℕ) : Type 0 where
+  pub plain : all_digits (drop i raw) ≡ all_digits raw
+  pub few : n < 10 ^ i
+  pub same : natural n (digits (drop i raw)) ≡ natural 0 (digits raw)
 
-pub digital-start : (text : List ℕ) (at end : ℕ) → at ≤ end → Digital text at end at
-digital-start text at end h = record { high = h; same = refl }
+module _ {raw : List ℕ} {n i : ℕ} (p : Quickly raw n i) (s : length raw < 10) where
+  pub quickly-end : length raw ≤ i → Some n ≡ quick_of raw
+  unfolding digits natural quick_of all_digits
+  quickly-end h =
+      let e : natural n (digits (drop i raw)) ≡ n = rw (drop_of_length-le raw h) in
+      let a : true ≡ all_digits raw = sym (ap all_digits (drop_of_length-le raw h)) ∙ p.plain in
+      rw (lt-ltb (length raw) 10 s, ← a) (ap Some (sym e ∙ p.same))
 
-module _ {text : List ℕ} {at end i : ℕ} (p : Digital text at end i) where
-  pub digital-end : end ≤ i → true ≡ all_digits (slice at end text)
-  unfolding all_digits
-  digital-end h = sym (ap all_digits (slice_out text i end p.high h)) ∙ p.same
-
-  module _ (h : i < end) (k : end ≤ length text) where
-    first : is_digit (get_or text i 0) && all_digits (slice (i + 1) end text) ≡ all_digits (slice at end text)
+  module _ (h : i < length raw) where
+    first : is_digit (get_or raw i 0) && all_digits (drop (i + 1) raw) ≡ all_digits raw
     unfolding all_digits
-    first = sym (ap all_digits (slice-next text i end h k)) ∙ p.same
+    first = sym (ap all_digits (drop-next raw i h)) ∙ p.plain
 
-    pub digital-not : false ≡ is_digit (get_or text i 0) → false ≡ all_digits (slice at end text)
-    digital-not e = ap (λ t. t && all_digits (slice (i + 1) end text)) e ∙ first
+    pub quickly-other : false ≡ is_digit (get_or raw i 0) → None ≡ quick_of raw
+    unfolding quick_of
+    quickly-other e = rw (← (ap (λ t. t && all_digits (drop (i + 1) raw)) e ∙ first)) (rw (and-false (ltb (length raw) 10)))
 
-    pub digital-more : true ≡ is_digit (get_or text i 0) → Digital text at end (i + 1)
-    digital-more e = record { high = omega arith; same = ap (λ t. t && all_digits (slice (i + 1) end text)) e ∙ first }
+    module _ {d : ℕ} (e : true ≡ is_digit (get_or raw i 0)) (q : d ≡ get_or raw i 0 - 48) where
+      pub quickly-more : Quickly raw (n * 10 + d) (i + 1)
+      unfolding natural
+      quickly-more =
+          let z : i + 1 ≡ suc i = omega arith in
+          record {
+            plain = ap (λ t. t && all_digits (drop (i + 1) raw)) e ∙ first;
+            few = rw (z, pow-suc) (omega (arith, p.few, digit-high (get_or raw i 0) e));
+            same = rw q (sym (ap (natural n) (ap digits (drop-next raw i h) ∙ digits_more _ _ e)) ∙ p.same);
+          }
 
--- ---- and write n, which has no more digits than they
+-- the number is the value of the bytes as an integer
+module _ (raw : List ℕ) (n : ℕ) (e : quick_of raw ≡ Some n) where
+  told : (all_digits raw ≡ true) × (n ≡ natural 0 (digits raw))
+  unfolding quick_of
+  told = by (ltb (length raw) 10) (all_digits raw) e
+    where
+      by : (x y : Bool) → cond (x && y) (Some (natural 0 (digits raw))) None ≡ Some n → (y ≡ true) × (n ≡ natural 0 (digits raw))
+      by true true q = (refl, cc)
+      by true false q = cc
+      by false y q = cc
 
-pub record Quickly (text : List ℕ) (at end n i : ℕ) : Type 0 where
-  pub plain : Digital text at end i
-  pub low : at ≤ i
-  pub few : n < 10 ^ (i - at)
-  pub same : natural n (digits (slice i end text)) ≡ natural 0 (digits (slice at end text))
+  told-whole : is_integer raw ≡ true
+  told-whole = digits-whole raw told.0
 
-pub quickly-start : (text : List ℕ) (at end : ℕ) → at ≤ end → Quickly text at end 0 at
-quickly-start text at end h = let z : at - at ≡ 0 = omega arith in record { plain = digital-start text at end h; low = omega arith; few = rw z (omega arith); same = refl }
+  told-value : integer raw ≡ pos n
+  told-value = digits-value raw n told.0 told.1
 
--- a number that is none
-quick-none : (raw : List ℕ) → ltb (length raw) 10 && all_digits raw ≡ false → Quick raw 18446744073709551615
+pub quick-is : (raw : List ℕ) {r : Option ℕ} → r ≡ quick_of raw → Quick raw r
+quick-is raw e = record { is = e; whole = λ n q. told-whole raw n (sym e ∙ q); value = λ n q. told-value raw n (sym e ∙ q) }
+
+pub quick-long : (raw : List ℕ) → 9 < length raw → None ≡ quick_of raw
 unfolding quick_of
-quick-none raw e = record { is = rw e; whole = λ l. absurd (omega arith); value = λ l. absurd (omega arith) }
+quick-long raw h = rw (le-ltb (length raw) 10 h)
 
-pub quick-long : (text : List ℕ) (at end : ℕ) → end ≤ length text → 9 < end - at → Quick (slice at end text) 18446744073709551615
-quick-long text at end k h = quick-none (slice at end text) (rw (le-ltb (length (slice at end text)) 10 (omega (arith, length-slice at end text k))))
-
-module _ {text : List ℕ} {at end n i : ℕ} (p : Quickly text at end n i) where
-  pub quickly-other : i < end → end ≤ length text → false ≡ is_digit (get_or text i 0) → Quick (slice at end text) 18446744073709551615
-  quickly-other h k e = quick-none (slice at end text) (rw (← digital-not p.plain h k e) (and-false (ltb (length (slice at end text)) 10)))
-
-  pub quickly-end : end ≤ i → end - at ≤ 9 → end ≤ length text → Quick (slice at end text) n
-  unfolding digits natural quick_of
-  quickly-end h s k =
-      let e : natural n (digits (slice i end text)) ≡ n = rw (slice_out text i end p.plain.high h) in
-      let a = sym (digital-end p.plain h) in
-      let l : ltb (length (slice at end text)) 10 ≡ true = lt-ltb (length (slice at end text)) 10 (omega (arith, length-slice at end text k)) in
-      record { is = rw (l, a) (sym e ∙ p.same); whole = λ l. digits-whole (slice at end text) a; value = λ l. digits-value (slice at end text) n a (sym e ∙ p.same) }
-
-  module _ (h : i < end) (s : end - at ≤ 9) where
-    quickly-small : n < 1000000000
-    quickly-small = let w = pow-le-pow_right {n = 10} (omega arith) {i = i - at} {j = 9} (omega (arith, p.low)) in omega (arith, p.few)
-
-    pub quickly-times : Fits w64 (n * 10)
-    quickly-times = record { fits = omega (arith, quickly-small) }
-
-    pub quickly-plus : true ≡ is_digit (get_or text i 0) → {d : ℕ} → d ≡ get_or text i 0 - 48 → Fits w64 (n * 10 + d)
-    quickly-plus e q = record { fits = omega (arith, quickly-small, digit-high (get_or text i 0) e) }
-
-    pub quickly-more : end ≤ length text → true ≡ is_digit (get_or text i 0) → {d : ℕ} → d ≡ get_or text i 0 - 48 → Quickly text at end (n * 10 + d) (i + 1)
-    unfolding natural
-    quickly-more k e {d} q =
-        let z : i + 1 - at ≡ suc (i - at) = omega (arith, p.low) in
-        record {
-          plain = digital-more p.plain h k e;
-          low = omega (arith, p.low);
-          few = rw (z, pow-suc) (omega (arith, p.few, digit-high (get_or text i 0) e));
-          same = rw q (sym (ap (natural n) (ap digits (slice-next text i end h k) ∙ digits_more _ _ e)) ∙ p.same);
-        }
+-- all bytes, less than ten, are digits where there is such a number
+pub some-digits : (raw : List ℕ) {r : Option ℕ} → length raw < 10 → r ≡ quick_of raw → is_some r ≡ all_digits raw
+unfolding quick_of
+some-digits raw h e = ap is_some e ∙ ap (λ t. is_some (cond (t && all_digits raw) (Some (natural 0 (digits raw))) None)) (lt-ltb (length raw) 10 h) ∙ by (all_digits raw)
+  where
+    by : (y : Bool) → is_some (cond y (Some (natural 0 (digits raw))) None) ≡ y
+    by true = refl
+    by false = refl
 
 -- ---- a short numeral is small
 
@@ -178,56 +167,35 @@ unfolding is_short
 long-not [] h = refl
 long-not (b ∷ s) h = rw (le-ltb (length (b ∷ s)) 10 (omega arith))
 
-pub short-long : (text : List ℕ) (at end : ℕ) → end ≤ length text → 9 < end - at → Short (slice at end text) false
-short-long text at end k h = short_none (slice at end text) (long-not (slice at end text) (omega (arith, length-slice at end text k)))
+pub short-long : (raw : List ℕ) → 9 < length raw → Short raw false
+short-long raw h = short_none raw (long-not raw h)
 
-pub short-empty : (text : List ℕ) (at end : ℕ) → at ≡ end → Short (slice at end text) false
+pub short-empty : (raw : List ℕ) → length raw < 1 → Short raw false
 unfolding is_short
-short-empty text at end q = short_none (slice at end text) (ap is_short (slice_out text at end (omega arith) (omega arith)))
+short-empty [] q = short_none [] refl
+short-empty (b ∷ s) q = absurd (omega arith)
 
-module _ (text : List ℕ) (at end : ℕ) (k : end ≤ length text) (s : end - at ≤ 9) (h : at ≤ end) (n : at ≡ end → ⊥) where
-  fits-so : fits32 (integer (slice at end text)) ≡ true
-  fits-so = short-fits (slice at end text) (omega (arith, length-slice at end text k))
+module _ (raw : List ℕ) (s : length raw ≤ 9) (h : 1 ≤ length raw) where
+  next : raw ≡ get_or raw 0 0 ∷ drop 1 raw
+  next = drop-next raw 0 h
 
-  next : slice at end text ≡ get_or text at 0 ∷ slice (at + 1) end text
-  next = slice-next text at end (omega arith) k
+  few : ltb (length (get_or raw 0 0 ∷ drop 1 raw)) 10 ≡ true
+  few = lt-ltb (length (get_or raw 0 0 ∷ drop 1 raw)) 10 (omega (arith, ap length next))
 
-  few : ltb (length (get_or text at 0 ∷ slice (at + 1) end text)) 10 ≡ true
-  few = lt-ltb (length (get_or text at 0 ∷ slice (at + 1) end text)) 10 (omega (arith, length-slice at end text k, ap length next))
-
-  pub short-plus : {r : Bool} → (get_or text at 0 ≡ 45 → ⊥) → r ≡ all_digits (slice at end text) → Short (slice at end text) r
+  pub short-plus : {r : Bool} → (get_or raw 0 0 ≡ 45 → ⊥) → r ≡ all_digits raw → Short raw r
   unfolding is_short
   short-plus b e =
       record {
-        is = e ∙ (ap all_digits next ∙ sym (ap is_short next ∙ rw (few, ne_eqb (get_or text at 0) 45 b)));
-        whole = λ q. digits-whole (slice at end text) (sym e ∙ q);
-        fits = λ q. fits-so;
+        is = e ∙ (ap all_digits next ∙ sym (ap is_short next ∙ rw (few, ne_eqb (get_or raw 0 0) 45 b)));
+        whole = λ q. digits-whole raw (sym e ∙ q);
+        fits = λ q. short-fits raw s;
       }
 
-  pub short-minus : {r : Bool} → get_or text at 0 ≡ 45 → r ≡ all_digits (slice (at + 1) end text) → Short (slice at end text) r
+  pub short-minus : {r : Bool} → get_or raw 0 0 ≡ 45 → r ≡ all_digits (drop 1 raw) → Short raw r
   unfolding is_short is_integer
   short-minus b e =
       record {
-        is = e ∙ sym (ap is_short next ∙ rw (few, eq-eqb (get_or text at 0) 45 b));
-        whole = λ q. rw (next, b) (digits-whole (slice (at + 1) end text) (sym e ∙ q));
-        fits = λ q. fits-so;
+        is = e ∙ sym (ap is_short next ∙ rw (few, eq-eqb (get_or raw 0 0) 45 b));
+        whole = λ q. rw (next, b) (digits-whole (drop 1 raw) (sym e ∙ q));
+        fits = λ q. short-fits raw s;
       }
-
-pub ruleset short = (
-  bytes,
-  digital-start,
-  digital-end,
-  digital-not,
-  digital-more,
-  quickly-start,
-  quickly-other,
-  quickly-end,
-  quickly-times,
-  quickly-plus,
-  quickly-more,
-  quick-long,
-  short-long,
-  short-empty,
-  short-plus,
-  short-minus,
-)

@@ -1,61 +1,49 @@
 -- The digits of a mantissa, one byte at a time.
 use Prim.Native.Nat.{ℕ, zero, suc, ◌+◌, ◌-◌, ◌*◌, ◌^◌, ◌≤◌, ◌<◌, min}
 use native.Mathlib.Omega.{arith}
-use native.Mathlib.Nat.{mul_assoc, mul-one, pow-succ', le-mul_of_pos_right, pow-le-pow_right, add-zero}
+use native.Mathlib.Nat.{mul_assoc, mul-one, le-mul_of_pos_right, pow-le-pow_right}
 use mathlib.Core.Path.{◌≡◌, refl, sym, ap, ◌∙◌}
 use mathlib.Core.Bool.{Bool, true, false, cond, ◌||◌}
 use mathlib.Core.List.{List, [], ◌∷◌}
 use lib.ListN.{length, get_or}
-use lib.Seq.{slice}
+use Rattle.std.proofs.Common.{Some, None, drop, drop_of_length-le, mul-le-mul_left, pow-add, rules}
 use borrow.Author.Tests.{eq-eqb, ne_eqb}
 use Rattle.utf8.specs.Ascii.{is_digit}
-use Rattle.numerals.specs.Numerals.{is_point, is_letter, before, after, mantissa, places}
-use Rattle.numerals.proofs.Laws.{digit_low, digit-high, before-no, before-yes, after-no, after-yes}
+use Rattle.numerals.specs.Numerals.{is_point, is_letter, before, after, mantissa}
+use Rattle.numerals.proofs.Laws.{digit-high, before-no, before-yes, after-no, after-yes}
 use Rattle.numerals.specs.Reading.{digit, taken, sums, nothing, capped, Room, Reads}
 use Rattle.numerals.specs.declared.Sum.{Sum}
-use Rattle.numerals.specs.declared.Mantissa.TheVariants.{Read, Large}
-use Rattle.numerals.proofs.Bytes.{bytes, or-true, is-digit, under-digit, slice-next, slice_out}
+use Rattle.numerals.proofs.Bytes.{or-true, under-digit, drop-next}
 
 -- ---- m, some zeros and a digit
 
 ten-pos : (k : ℕ) → 0 < 10 ^ k
 ten-pos k = let h : 0 < 10 = omega arith in let l : 0 ≤ k = omega arith in pow-le-pow_right h l
 
--- n is m with some of its zeros, and k are left
-pub record Raised (m zeros n k : ℕ) : Type 0 where
-  pub same : n * 10 ^ k ≡ m * 10 ^ (zeros + 1)
+-- n is m with j of its zeros
+pub record Raised (m n j : ℕ) : Type 0 where
+  pub same : n ≡ m * 10 ^ j
   pub high : n < 10 ^ 16
-  pub left : k ≤ 2 ^ 63
 
-pub raised-start : (m zeros : ℕ) → m < 10 ^ 15 → zeros < 2 ^ 63 → Raised m zeros m (zeros + 1)
-raised-start m zeros h l = record { same = refl; high = omega arith; left = omega arith }
+pub raised-start : (m : ℕ) → m < 10 ^ 15 → Raised m m 0
+raised-start m h = record { same = sym (mul-one m); high = omega arith }
 
-module _ {m zeros n k : ℕ} (p : Raised m zeros n k) where
-  pub raised-more : 0 < k → n < 10 ^ 15 → Raised m zeros (n * 10) (k - 1)
-  raised-more h l =
-      let e : k ≡ suc (k - 1) = omega arith in
-      record { same = mul_assoc n 10 (10 ^ (k - 1)) ∙ ap (λ t. n * t) (sym (pow-succ' 10 (k - 1))) ∙ ap (λ t. n * 10 ^ t) (sym e) ∙ p.same; high = omega arith; left = omega (arith, p.left) }
+module _ {m n j : ℕ} (p : Raised m n j) where
+  pub raised-more : n < 10 ^ 15 → Raised m (n * 10) (j + 1)
+  raised-more l =
+      record {
+        same = ap (λ t. t * 10) p.same ∙ mul_assoc m (10 ^ j) 10 ∙ ap (λ t. m * t) (sym (pow-add 10 j 1));
+        high = omega arith;
+      }
 
-  module _ (d : ℕ) where
-    pub raised-large : 10 ^ 15 ≤ n → 10 ^ 15 ≡ min (m * 10 ^ (zeros + 1) + d) (10 ^ 15)
-    raised-large h = let q = p.same in let w = le-mul_of_pos_right n (ten-pos k) in omega arith
+  module _ (zeros d : ℕ) where
+    pub raised-large : j ≤ zeros + 1 → 10 ^ 15 ≤ n → 10 ^ 15 ≡ min (m * 10 ^ (zeros + 1) + d) (10 ^ 15)
+    raised-large l h = let w = mul-le-mul_left m (pow-le-pow_right {n = 10} (omega arith) l) in omega (arith, p.same)
 
-    raised-end : k ≤ 0 → n ≡ m * 10 ^ (zeros + 1)
-    raised-end h = let e : k ≡ 0 = omega arith in sym (mul-one n) ∙ ap (λ t. n * 10 ^ t) (sym e) ∙ p.same
-
-    pub raised-out : k ≤ 0 → 10 ^ 15 ≤ n + d → 10 ^ 15 ≡ min (m * 10 ^ (zeros + 1) + d) (10 ^ 15)
-    raised-out h l = let q = raised-end h in omega arith
-
-    pub raised-in : k ≤ 0 → n + d < 10 ^ 15 → n + d ≡ min (m * 10 ^ (zeros + 1) + d) (10 ^ 15)
-    raised-in h l = let q = raised-end h in omega arith
+    pub raised-end : j ≤ zeros + 1 → zeros + 1 ≤ j → min (10 ^ 15) (n + d) ≡ min (m * 10 ^ (zeros + 1) + d) (10 ^ 15)
+    raised-end l h = let e : j ≡ zeros + 1 = omega arith in let q : n ≡ m * 10 ^ (zeros + 1) = p.same ∙ ap (λ t. m * 10 ^ t) e in omega arith
 
 -- ---- one byte more
-
-pub counted-yes : (places : ℕ) (point : Bool) → point ≡ true → places + 1 ≡ places + cond point 1 0
-counted-yes places point e = rw e
-
-pub counted-no : (places : ℕ) (point : Bool) → point ≡ false → places ≡ places + cond point 1 0
-counted-no places point e = rw e (sym (add-zero places))
 
 -- a byte that is no digit
 abbrev pub other : Sum → ℕ → Sum
@@ -93,17 +81,14 @@ module _ {s : Sum} (b : ℕ) (h : Room s) where
       same_sum s (capped (other s b)) small-m refl refl (or-false s.point ∙ ap (λ t. s.point || t) (sym (ne_eqb b 46 n)))
       ∙ sym (ap capped (taken-no s b e))
 
-  pub take-zero : {places : ℕ} → b ≡ 48 → places ≡ s.places + cond s.point 1 0 → record { m = s.m; zeros = s.zeros + 1; places = places; point = s.point } ≡ capped (taken s b)
+  pub take-zero : {places : ℕ} → true ≡ is_digit b → 0 ≡ b - 48 → places ≡ s.places + cond s.point 1 0 → record { m = s.m; zeros = s.zeros + 1; places = places; point = s.point } ≡ capped (taken s b)
   unfolding capped digit
-  take-zero e q =
-      let z : b - 48 ≡ 0 = omega arith in
-      same_sum _ (capped (digit s 0)) small-m refl q refl ∙ ap (λ t. capped (digit s t)) (sym z) ∙ sym (ap capped (taken_yes s b (is-digit b (omega arith) (omega arith))))
+  take-zero e z q = same_sum _ (capped (digit s 0)) small-m refl q refl ∙ ap (λ t. capped (digit s t)) z ∙ sym (ap capped (taken_yes s b e))
 
-  pub take-digit : {places m v : ℕ} → (b ≡ 48 → ⊥) → true ≡ is_digit b → v ≡ b - 48 → places ≡ s.places + cond s.point 1 0
+  pub take-digit : {places m v : ℕ} → (v ≡ 0 → ⊥) → true ≡ is_digit b → v ≡ b - 48 → places ≡ s.places + cond s.point 1 0
       → m ≡ min (s.m * 10 ^ (s.zeros + 1) + v) (10 ^ 15) → record { m = m; zeros = 0; places = places; point = s.point } ≡ capped (taken s b)
   unfolding capped digit
   take-digit n e v q w =
-      let l = digit_low b e in
       let z : b - 48 ≡ suc (b - 49) = omega arith in
       same_sum _ (capped (digit s (suc (b - 49)))) (w ∙ ap (λ t. min (s.m * 10 ^ (s.zeros + 1) + t) (10 ^ 15)) (v ∙ z)) refl q refl
       ∙ ap (λ t. capped (digit s t)) (sym z)
@@ -143,85 +128,78 @@ sums-grow s (b ∷ l) = let h = (grows s b).0 in let k = sums-grow (taken s b) l
 -- ---- the loop
 
 -- the bytes before i, of which none is the letter, give s
-pub record Inside (text : List ℕ) (at end : ℕ) (s : Sum) (i : ℕ) : Type 0 where
-  pub low : at ≤ i
-  pub high : i ≤ end
-  pub sum : sums s (mantissa (slice i end text)) ≡ sums nothing (mantissa (slice at end text))
-  pub rest : after is_letter (slice i end text) ≡ after is_letter (slice at end text)
+pub record Inside (raw : List ℕ) (s : Sum) (i : ℕ) : Type 0 where
+  pub sum : sums s (mantissa (drop i raw)) ≡ sums nothing (mantissa raw)
+  pub rest : after is_letter (drop i raw) ≡ after is_letter raw
   pub m : s.m < 10 ^ 15
   pub zeros : s.zeros ≤ i
   pub places : s.places ≤ i
 
-pub inside-start : (text : List ℕ) (at end : ℕ) → at ≤ end → Inside text at end nothing at
-inside-start text at end h = record { low = omega arith; high = h; sum = refl; rest = refl; m = omega arith; zeros = omega arith; places = omega arith }
+pub inside-start : (raw : List ℕ) → Inside raw nothing 0
+inside-start raw = record { sum = refl; rest = refl; m = omega arith; zeros = omega arith; places = omega arith }
 
-module _ {text : List ℕ} {at end : ℕ} {s : Sum} {i : ℕ} (p : Inside text at end s i) (k : end ≤ length text) (f : length text * 1 < 2 ^ 63) where
+module _ {raw : List ℕ} {s : Sum} {i : ℕ} (p : Inside raw s i) (f : length raw * 1 < 2 ^ 63) (k : i ≤ length raw) where
   pub inside-room : Room s
-  inside-room = record { m = p.m; zeros = omega (arith, p.zeros, p.high); places = omega (arith, p.places, p.high) }
+  inside-room = record { m = p.m; zeros = omega (arith, p.zeros); places = omega (arith, p.places) }
 
-  pub inside-end : end ≤ i → Reads text at end (Read s i)
+  pub inside-end : length raw ≤ i → Reads raw (Some (s, length raw))
   unfolding Reads sums mantissa before after
   inside-end h =
-      let o = slice_out text i end p.high h in
-      record { sum = ap (λ l. sums s (before is_letter l)) (sym o) ∙ p.sum; room = inside-room; high = p.high; rest = o ∙ ap (after is_letter) (sym o) ∙ p.rest }
+      let o = drop_of_length-le raw h in
+      record {
+        sum = ap (λ l. sums s (before is_letter l)) (sym o) ∙ p.sum;
+        room = inside-room;
+        high = omega arith;
+        rest = drop_of_length-le raw (omega arith) ∙ ap (after is_letter) (sym o) ∙ p.rest;
+      }
 
-  module _ (h : i < end) where
-    pub inside-letter : true ≡ is_letter (get_or text i 0) → Reads text at end (Read s (i + 1))
+  module _ (h : i < length raw) where
+    pub inside-letter : true ≡ is_letter (get_or raw i 0) → Reads raw (Some (s, i + 1))
     unfolding Reads sums mantissa
     inside-letter e =
-        let o = slice-next text i end h k in
+        let o = drop-next raw i h in
         record {
-          sum = ap (sums s) (sym (ap (before is_letter) o ∙ before-yes is_letter (get_or text i 0) (slice (i + 1) end text) (sym e))) ∙ p.sum;
+          sum = ap (sums s) (sym (ap (before is_letter) o ∙ before-yes is_letter (get_or raw i 0) (drop (i + 1) raw) (sym e))) ∙ p.sum;
           room = inside-room;
           high = omega arith;
-          rest = sym (ap (after is_letter) o ∙ after-yes is_letter (get_or text i 0) (slice (i + 1) end text) (sym e)) ∙ p.rest;
+          rest = sym (ap (after is_letter) o ∙ after-yes is_letter (get_or raw i 0) (drop (i + 1) raw) (sym e)) ∙ p.rest;
         }
 
-    module _ (e : false ≡ is_letter (get_or text i 0)) {t : Sum} (q : t ≡ capped (taken s (get_or text i 0))) where
-      on : sums (taken s (get_or text i 0)) (mantissa (slice (i + 1) end text)) ≡ sums nothing (mantissa (slice at end text))
+    module _ (e : false ≡ is_letter (get_or raw i 0)) {t : Sum} (q : t ≡ capped (taken s (get_or raw i 0))) where
+      on : sums (taken s (get_or raw i 0)) (mantissa (drop (i + 1) raw)) ≡ sums nothing (mantissa raw)
       unfolding sums mantissa
-      on = sym (ap (λ l. sums s (before is_letter l)) (slice-next text i end h k) ∙ ap (sums s) (before-no is_letter (get_or text i 0) (slice (i + 1) end text) (sym e))) ∙ p.sum
+      on = sym (ap (λ l. sums s (before is_letter l)) (drop-next raw i h) ∙ ap (sums s) (before-no is_letter (get_or raw i 0) (drop (i + 1) raw) (sym e))) ∙ p.sum
 
-      pub inside-large : 10 ^ 15 ≤ t.m → Reads text at end Large
+      pub inside-large : 10 ^ 15 ≤ t.m → Reads raw None
       unfolding Reads capped
       inside-large l =
           let w = ap (λ r. r.m) q in
-          let v = sums-grow (taken s (get_or text i 0)) (mantissa (slice (i + 1) end text)) in
+          let v = sums-grow (taken s (get_or raw i 0)) (mantissa (drop (i + 1) raw)) in
           let z = ap (λ r. r.m) on in
           omega arith
 
-      pub inside-more : t.m < 10 ^ 15 → Inside text at end t (i + 1)
+      pub inside-more : t.m < 10 ^ 15 → Inside raw t (i + 1)
       unfolding capped
       inside-more l =
           let w = ap (λ r. r.m) q in
-          let g = grows s (get_or text i 0) in
-          let t-is : t ≡ taken s (get_or text i 0) = q ∙ same_sum (capped (taken s (get_or text i 0))) (taken s (get_or text i 0)) (omega arith) refl refl refl in
+          let g = grows s (get_or raw i 0) in
+          let t-is : t ≡ taken s (get_or raw i 0) = q ∙ same_sum (capped (taken s (get_or raw i 0))) (taken s (get_or raw i 0)) (omega arith) refl refl refl in
           let y = ap (λ r. r.zeros) t-is in
           let z = ap (λ r. r.places) t-is in
           record {
-            low = omega (arith, p.low);
-            high = omega arith;
-            sum = ap (λ r. sums r (mantissa (slice (i + 1) end text))) t-is ∙ on;
-            rest = sym (ap (after is_letter) (slice-next text i end h k) ∙ after-no is_letter (get_or text i 0) (slice (i + 1) end text) (sym e)) ∙ p.rest;
+            sum = ap (λ r. sums r (mantissa (drop (i + 1) raw))) t-is ∙ on;
+            rest = sym (ap (after is_letter) (drop-next raw i h) ∙ after-no is_letter (get_or raw i 0) (drop (i + 1) raw) (sym e)) ∙ p.rest;
             m = l;
             zeros = omega (arith, p.zeros);
             places = omega (arith, p.places);
           }
 
 pub ruleset digital = (
-  bytes,
+  rules,
   raised-start,
   raised-more,
   raised-large,
-  raised-out,
-  raised-in,
-  counted-yes,
-  counted-no,
-  take-point,
-  take-other,
-  take-zero,
-  take-digit,
-  value-small,
+  raised-end,
   inside-room,
   inside-start,
   inside-end,

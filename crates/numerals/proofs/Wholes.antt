@@ -5,14 +5,14 @@ use mathlib.Core.Path.{◌≡◌, refl, sym, ap, ◌∙◌}
 use mathlib.Core.Bool.{Bool, true, false}
 use mathlib.Core.List.{List}
 use lib.Dec.{leb, ltb}
-use lib.IntN.{ℤ, pos, neg_ℤ, ◌-ℤ◌, +ℤ_idl}
+use lib.IntN.{ℤ, pos, negsuc, neg_ℤ, ◌-ℤ◌, +ℤ_idl}
 use mir.Syntax.{w64}
 use mir.Val.{Fits, SFits, to_z, of_z}
 use mir.Facts.{to_z_pos, to_z-of_z}
-use borrow.Author.Tests.{leb-true, leb-false, le-leb, lt-leb}
+use borrow.Author.Tests.{leb-true, leb-false, le-leb, lt-leb, le-ltb}
 use borrow.Author.Rules.{rules}
 use Rattle.numerals.specs.Numerals.{negative, signed, integer, fits32, is_below, natural, digits}
-use Rattle.numerals.specs.Reading.{saturated, IsWhole}
+use Rattle.numerals.specs.Reading.{saturated, IsWhole, within}
 use Rattle.numerals.specs.declared.Whole.{Whole}
 
 -- ---- tests of a number that stops at m
@@ -33,33 +33,45 @@ ltb-min n m c h = by-test (ltb n c) refl
 
 -- ---- tests of a number with a sign
 
-fits-true : (n : ℕ) → leb n 2147483648 ≡ fits32 (signed true n)
-unfolding fits32 signed
-fits-true zero = refl
-fits-true (suc n) = refl
+pub lies-minus : (low high n : ℕ) {neg : Bool} → neg ≡ true → 0 < n → leb n low ≡ within low high (signed neg n)
+unfolding within signed
+lies-minus low high zero e h = absurd (omega arith)
+lies-minus low high (suc n) e h = rw e refl
 
-fits-false : (n : ℕ) → ltb n 2147483648 ≡ fits32 (signed false n)
-unfolding fits32 signed
-fits-false n = refl
+pub lies-nought : (low high n : ℕ) (neg : Bool) → n ≤ 0 → ltb n high ≡ within low high (signed neg n)
+unfolding within signed
+lies-nought low high zero true h = refl
+lies-nought low high zero false h = refl
+lies-nought low high (suc n) neg h = absurd (omega arith)
 
-below_true : (n count : ℕ) → 0 < n → false ≡ is_below count (signed true n)
-unfolding is_below signed
-below_true zero count h = absurd (omega arith)
-below_true (suc n) count h = refl
+pub lies-plus : (low high n : ℕ) {neg : Bool} → neg ≡ false → ltb n high ≡ within low high (signed neg n)
+unfolding within signed
+lies-plus low high n e = rw e refl
 
-below-nought : (n count : ℕ) → n ≤ 0 → ltb 0 count ≡ is_below count (signed true n)
-unfolding is_below signed
-below-nought zero count h = refl
-below-nought (suc n) count h = absurd (omega arith)
+within-32 : (z : ℤ) → within 2147483648 2147483648 z ≡ fits32 z
+unfolding within fits32
+within-32 (pos n) = refl
+within-32 (negsuc n) = refl
 
-below_false : (n count : ℕ) → ltb n count ≡ is_below count (signed false n)
-unfolding is_below signed
-below_false n count = refl
+within-count : (count : ℕ) (z : ℤ) → within 0 count z ≡ is_below count z
+unfolding within is_below
+within-count count (pos n) = refl
+within-count count (negsuc n) = le-ltb n 0 (omega arith)
+
+-- the magnitude may stop at m
+within-stops : (low high m n : ℕ) (neg : Bool) → low < m → high ≤ m → within low high (signed neg (min n m)) ≡ within low high (signed neg n)
+unfolding within signed
+within-stops low high m n false l h = ltb-min n m high h
+within-stops low high m zero true l h = let e : min 0 m ≡ 0 = omega arith in ap (λ k. within low high (signed true k)) e
+within-stops low high m (suc n) true l h =
+    sym (lies-minus low high (min (suc n) m) {neg = true} refl (omega arith)) ∙ leb-min (suc n) m low l
 
 -- a number that is in range is small
 fits-small : (neg : Bool) (n : ℕ) → fits32 (signed neg n) ≡ true → n ≤ 2147483648
-fits-small true n e = leb-true n 2147483648 (fits-true n ∙ e)
-fits-small false n e = let h = leb-true (suc n) 2147483648 (fits-false n ∙ e) in omega arith
+unfolding fits32 signed
+fits-small true zero e = omega arith
+fits-small true (suc n) e = leb-true (suc n) 2147483648 e
+fits-small false n e = let h = leb-true (suc n) 2147483648 e in omega arith
 
 module _ {raw : List ℕ} {w : Whole} (h : IsWhole raw w) where
   -- an integer, by the sign that is known
@@ -71,21 +83,17 @@ module _ {raw : List ℕ} {w : Whole} (h : IsWhole raw w) where
   unfolding saturated
   size = h.size
 
-  pub fits-minus : w.negative ≡ true → leb w.magnitude 2147483648 ≡ fits32 (integer raw)
-  fits-minus e = ap (λ n. leb n 2147483648) size ∙ leb-min (natural 0 (digits raw)) (2 ^ 64 - 1) 2147483648 (omega arith) ∙ fits-true _ ∙ ap fits32 (known true e)
+  lies-in : (low high : ℕ) → low < 2 ^ 64 - 1 → high ≤ 2 ^ 64 - 1 → within low high (signed w.negative w.magnitude) ≡ within low high (integer raw)
+  lies-in low high l k =
+      ap (λ n. within low high (signed w.negative n)) size
+      ∙ within-stops low high (2 ^ 64 - 1) (natural 0 (digits raw)) w.negative l k
+      ∙ ap (within low high) (known w.negative refl)
 
-  pub fits-plus : w.negative ≡ false → ltb w.magnitude 2147483648 ≡ fits32 (integer raw)
-  fits-plus e = ap (λ n. ltb n 2147483648) size ∙ ltb-min (natural 0 (digits raw)) (2 ^ 64 - 1) 2147483648 (omega arith) ∙ fits-false _ ∙ ap fits32 (known false e)
+  pub lies-32 : {r : Bool} → r ≡ within 2147483648 2147483648 (signed w.negative w.magnitude) → r ≡ fits32 (integer raw)
+  lies-32 e = e ∙ lies-in 2147483648 2147483648 (omega arith) (omega arith) ∙ within-32 (integer raw)
 
-  module _ (count : ℕ) where
-    pub below-minus : w.negative ≡ true → 0 < w.magnitude → false ≡ is_below count (integer raw)
-    below-minus e l = let q = size in below_true (natural 0 (digits raw)) count (omega arith) ∙ ap (is_below count) (known true e)
-
-    pub below-minus-nought : w.negative ≡ true → w.magnitude ≤ 0 → ltb 0 count ≡ is_below count (integer raw)
-    below-minus-nought e l = let q = size in below-nought (natural 0 (digits raw)) count (omega arith) ∙ ap (is_below count) (known true e)
-
-    pub below-plus : w.negative ≡ false → Fits w64 count → ltb w.magnitude count ≡ is_below count (integer raw)
-    below-plus e f = let g = f.fits in ap (λ n. ltb n count) size ∙ ltb-min (natural 0 (digits raw)) (2 ^ 64 - 1) count (omega arith) ∙ below_false _ count ∙ ap (is_below count) (known false e)
+  pub lies-below : (count : ℕ) {r : Bool} → Fits w64 count → r ≡ within 0 count (signed w.negative w.magnitude) → r ≡ is_below count (integer raw)
+  lies-below count f e = let g = f.fits in e ∙ lies-in 0 count (omega arith) (omega arith) ∙ within-count count (integer raw)
 
 -- ---- signed machine numbers
 
@@ -122,4 +130,4 @@ module _ {raw : List ℕ} {w : Whole} (h : IsWhole raw w) (f : fits32 (integer r
       let n : w.magnitude ≡ natural 0 (digits raw) = omega (arith, fits-small (negative raw) (natural 0 (digits raw)) f) in
       rw e (to_z-of_z (signed-fits w.negative w.magnitude whole-small) ∙ ap (λ m. signed w.negative m) n ∙ ap (λ t. signed t (natural 0 (digits raw))) h.sign)
 
-pub ruleset wholes = (rules, fits-minus, fits-plus, below-minus, below-minus-nought, below-plus, minus-fits, with-minus, with-plus, whole-small, whole_is)
+pub ruleset wholes = (rules, lies-minus, lies-nought, lies-plus, lies-32, lies-below, minus-fits, with-minus, with-plus, whole-small, whole_is)

@@ -2,19 +2,18 @@
 // A numeral is given by the text and two offsets, `at` of its first byte and `end` past its last.
 #![tactic(auto)]
 
-ghost use Rattle.std.specs.Prelude.{◌+◌, ◌-◌, ◌*◌, ◌^◌, ◌≤◌, ◌<◌, min, true, cond, ◌≡◌, length};
+ghost use Rattle.std.specs.Prelude.{◌+◌, ◌-◌, ◌*◌, ◌^◌, ◌≤◌, ◌<◌, min, true, cond, Some, None, ◌≡◌, length};
 ghost use Rattle.std.proofs.Math.Seq.{slice};
 ghost use Rattle.std.proofs.Math.IntN.{sub_ℕ};
 ghost use Rattle.utf8.specs.Ascii.{is_digit};
 ghost use Rattle.numerals.specs.Numerals as spec;
-ghost use Rattle.numerals.specs.Reading.{pair_in, saturated, IsWhole, all_digits, Quick, Short, taken, capped, Room, Reads, Reaches, power_of};
+ghost use Rattle.numerals.specs.Reading.{pair_in, saturated, IsWhole, within, quick_of, Quick, Short, taken, capped, Room, Reads, Reaches, power_of};
 
-// The pair of a numeral, or that it has none in range.
-#[derive(Drop)]
-pub enum Numeral {
-    Pair(i64, i64),
-    Out,
-}
+// No mantissa of a pair is this large.
+const LARGE: u64 = 1_000_000_000_000_000;
+
+// The powers of ten of pairs lie from -22 to 22.
+const REACH: u128 = 22;
 
 // An integer by its sign and its magnitude, which stops at 2^64 - 1.
 #[derive(Drop)]
@@ -32,27 +31,14 @@ struct Sum {
     pub point: bool,
 }
 
-// A mantissa, and where its exponent starts; or that m is 10^15 or more.
-#[derive(Drop)]
-enum Mantissa {
-    Read(Sum, usize),
-    Large,
-}
-
-// A power of ten from -22 to 22, or that it lies outside.
-#[derive(Drop)]
-enum Power {
-    Ranged(i64),
-    Beyond,
-}
-
-// Is it a digit?
-fn is_digit(b: u8) -> bool
-    ensures { result ≡ is_digit b }
+// The value of a digit; none for another byte.
+fn digit(b: u8) -> Option<u64>
+    ensures { result ≡ cond (is_digit b) (Some (b - 48)) None }
 {
-    match b {
-        b'0'..=b'9' => true,
-        _ => false,
+    if b.is_ascii_digit() {
+        Some(u64::from(b - b'0'))
+    } else {
+        None
     }
 }
 
@@ -60,10 +46,7 @@ fn is_digit(b: u8) -> bool
 fn is_letter(b: u8) -> bool
     ensures { result ≡ spec.is_letter b }
 {
-    match b {
-        b'e' | b'E' => true,
-        _ => false,
-    }
+    matches!(b, b'e' | b'E')
 }
 
 // Has the numeral no fraction and no exponent?
@@ -71,73 +54,58 @@ pub fn is_integer(text: &[u8], at: usize, end: usize) -> bool
     requires { (at ≤ end) × (end ≤ length text.now) }
     ensures { result ≡ spec.is_integer (slice at end text.now) }
 {
-    let mut i = at;
-    while i < end {
-        let b = text[i];
-        if b == b'.' {
-            return false;
-        }
-        if is_letter(b) {
-            return false;
-        }
-        i += 1;
-    }
-    true
+    let raw = &text[at..end];
+    raw.iter().all(|b| *b != b'.' && !is_letter(*b))
 }
 
 // Does a minus sign come first?
-fn is_negative(text: &[u8], at: usize, end: usize) -> bool
-    requires { (at ≤ end) × (end ≤ length text.now) }
-    ensures { result ≡ spec.negative (slice at end text.now) }
+fn is_negative(raw: &[u8]) -> bool
+    ensures { result ≡ spec.negative raw.now }
 {
-    if at == end {
-        return false;
-    }
-    let b = text[at];
-    b == b'-'
-}
-
-// The value of a digit.
-fn value(b: u8) -> u64
-    requires { 48 ≤ b }
-    ensures { result ≡ b - 48 }
-{
-    (b - b'0') as u64
+    matches!(raw, [b'-', ..])
 }
 
 // The number that the digits write, at most 2^64 - 1.
-fn magnitude(text: &[u8], at: usize, end: usize) -> u64
-    requires { (at ≤ end) × (end ≤ length text.now) }
-    ensures { result ≡ saturated (slice at end text.now) }
+fn magnitude(raw: &[u8]) -> u64
+    ensures { result ≡ saturated raw.now }
 {
     let mut n: u64 = 0;
-    let mut i = at;
-    while i < end {
-        let b = text[i];
-        i += 1;
-        if !is_digit(b) {
-            continue;
+    for b in raw {
+        if let Some(d) = digit(*b) {
+            n = n.saturating_mul(10).saturating_add(d);
         }
-        let d = value(b);
-        if n > (0xffff_ffff_ffff_ffff - d) / 10 {
-            return 0xffff_ffff_ffff_ffff;
-        }
-        n = n * 10 + d;
     }
     n
 }
 
 // The value of an integer.
+fn integer_of(raw: &[u8]) -> Whole
+    ensures { IsWhole raw.now result }
+{
+    Whole {
+        negative: is_negative(raw),
+        magnitude: magnitude(raw),
+    }
+}
+
+// The same by the numeral's offsets.
 pub fn integer(text: &[u8], at: usize, end: usize) -> Whole
     requires { (at ≤ end) × (end ≤ length text.now) }
     ensures { IsWhole (slice at end text.now) result }
 {
-    let sign = is_negative(text, at, end);
-    let size = magnitude(text, at, end);
-    Whole {
-        negative: sign,
-        magnitude: size,
+    integer_of(&text[at..end])
+}
+
+// Does an integer lie from -low to high - 1?
+fn lies(w: Whole, low: u64, high: u64) -> bool
+    ensures { result ≡ within low high (spec.signed w.negative w.magnitude) }
+{
+    let n = w.magnitude;
+    let under = w.negative && n > 0;
+    if under {
+        return n <= low;
     }
+    n < high
 }
 
 // Does an integer lie within 32 signed bits?
@@ -145,12 +113,7 @@ pub fn fits_32(text: &[u8], at: usize, end: usize) -> bool
     requires { (at ≤ end) × (end ≤ length text.now) }
     ensures { result ≡ spec.fits32 (spec.integer (slice at end text.now)) }
 {
-    let w = integer(text, at, end);
-    let n = w.magnitude;
-    if w.negative {
-        return n <= 0x8000_0000;
-    }
-    n < 0x8000_0000
+    lies(integer(text, at, end), 0x8000_0000, 0x8000_0000)
 }
 
 // Is an integer one of 0, 1, .., count - 1?
@@ -158,54 +121,31 @@ pub fn is_below(text: &[u8], at: usize, end: usize, count: usize) -> bool
     requires { (at ≤ end) × (end ≤ length text.now) }
     ensures { result ≡ spec.is_below count (spec.integer (slice at end text.now)) }
 {
-    let w = integer(text, at, end);
-    let n = w.magnitude;
-    let limit = count as u64;
-    if w.negative {
-        if n > 0 {
-            return false;
-        }
-        return 0 < limit;
-    }
-    n < limit
+    lies(integer(text, at, end), 0, count as u64)
 }
 
-// The number that at most nine digits write; 2^64 - 1 for other bytes.
-pub fn quick(text: &[u8], at: usize, end: usize) -> u64
+// The number that the digits write, if there are only digits.
+fn digits(raw: &[u8]) -> Option<u64>
+    requires { length raw.now < 10 }
+    ensures { result ≡ quick_of raw.now }
+{
+    let mut n: u64 = 0;
+    for b in raw {
+        n = n * 10 + digit(*b)?;
+    }
+    Some(n)
+}
+
+// The number that at most nine digits write; none for other bytes.
+pub fn quick(text: &[u8], at: usize, end: usize) -> Option<u64>
     requires { (at ≤ end) × (end ≤ length text.now) }
     ensures { Quick (slice at end text.now) result }
 {
-    let size = end - at;
-    if size > 9 {
-        return 0xffff_ffff_ffff_ffff;
+    let few = end - at <= 9;
+    if !few {
+        return None;
     }
-    let mut n: u64 = 0;
-    let mut i = at;
-    while i < end {
-        let b = text[i];
-        if !is_digit(b) {
-            return 0xffff_ffff_ffff_ffff;
-        }
-        n = n * 10 + value(b);
-        i += 1;
-    }
-    n
-}
-
-// Are all bytes digits?
-fn all_digits(text: &[u8], at: usize, end: usize) -> bool
-    requires { (at ≤ end) × (end ≤ length text.now) }
-    ensures { result ≡ all_digits (slice at end text.now) }
-{
-    let mut i = at;
-    while i < end {
-        let b = text[i];
-        if !is_digit(b) {
-            return false;
-        }
-        i += 1;
-    }
-    true
+    digits(&text[at..end])
 }
 
 // Is it a numeral of at most nine bytes with no fraction and no exponent? Then it is an integer that lies within 32 signed bits.
@@ -213,17 +153,15 @@ pub fn is_short(text: &[u8], at: usize, end: usize) -> bool
     requires { (at ≤ end) × (end ≤ length text.now) }
     ensures { Short (slice at end text.now) result }
 {
-    if end - at > 9 {
+    let raw = &text[at..end];
+    if raw.len() > 9 {
         return false;
     }
-    if at == end {
-        return false;
+    match raw {
+        [] => false,
+        [b'-', rest @ ..] => digits(rest).is_some(),
+        _ => digits(raw).is_some(),
     }
-    let b = text[at];
-    if b == b'-' {
-        return all_digits(text, at + 1, end);
-    }
-    all_digits(text, at, end)
 }
 
 // A number with a sign.
@@ -231,11 +169,7 @@ fn with_sign(negative: bool, n: u64) -> i64
     requires { n < 2 ^ 63 }
     ensures { result ≡ spec.signed negative n }
 {
-    let z = n as i64;
-    if negative {
-        return 0 - z;
-    }
-    z
+    if negative { -(n as i64) } else { n as i64 }
 }
 
 // An integer that lies within 32 signed bits.
@@ -254,30 +188,13 @@ fn append(m: u64, zeros: u64, d: u64) -> u64
     ensures { result ≡ min (m * 10 ^ (zeros + 1) + d) (10 ^ 15) }
 {
     let mut n = m;
-    let mut k = zeros + 1;
-    while k > 0 {
-        if n >= 1_000_000_000_000_000 {
-            return 1_000_000_000_000_000;
+    for _ in 0..zeros + 1 {
+        if n >= LARGE {
+            return LARGE;
         }
         n *= 10;
-        k -= 1;
     }
-    n += d;
-    if n >= 1_000_000_000_000_000 {
-        return 1_000_000_000_000_000;
-    }
-    n
-}
-
-// One more, if the point was read.
-fn counted(places: u64, point: bool) -> u64
-    requires { places < 2 ^ 63 }
-    ensures { result ≡ places + cond point 1 0 }
-{
-    if point {
-        return places + 1;
-    }
-    places
+    LARGE.min(n + d)
 }
 
 // One more byte of a mantissa.
@@ -286,38 +203,28 @@ fn take(s: Sum, b: u8) -> Sum
     ensures { result ≡ capped (taken s b) }
 {
     if b == b'.' {
-        return Sum {
-            m: s.m,
-            zeros: s.zeros,
-            places: s.places,
-            point: true,
-        };
+        return Sum { point: true, ..s };
     }
-    if !is_digit(b) {
-        return s;
-    }
-    let places = counted(s.places, s.point);
-    if b != b'0' {
-        let m = append(s.m, s.zeros, value(b));
-        return Sum {
-            m: m,
+    let places = s.places + u64::from(s.point);
+    match digit(b) {
+        None => s,
+        Some(0) => Sum {
+            zeros: s.zeros + 1,
+            places,
+            ..s
+        },
+        Some(d) => Sum {
+            m: append(s.m, s.zeros, d),
             zeros: 0,
-            places: places,
-            point: s.point,
-        };
-    }
-    Sum {
-        m: s.m,
-        zeros: s.zeros + 1,
-        places: places,
-        point: s.point,
+            places,
+            ..s
+        },
     }
 }
 
-// The bytes up to the letter.
-fn read(text: &[u8], at: usize, end: usize) -> Mantissa
-    requires { (at ≤ end) × (end ≤ length text.now) }
-    ensures { Reads text.now at end result }
+// The digits before the exponent, and where it starts; none if m is 10^15 or more.
+fn read(raw: &[u8]) -> Option<(Sum, usize)>
+    ensures { Reads raw.now result }
 {
     let mut s = Sum {
         m: 0,
@@ -325,88 +232,53 @@ fn read(text: &[u8], at: usize, end: usize) -> Mantissa
         places: 0,
         point: false,
     };
-    let mut i = at;
-    while i < end {
-        let b = text[i];
-        i += 1;
-        if is_letter(b) {
-            return Mantissa::Read(s, i);
+    for (i, b) in raw.iter().enumerate() {
+        if is_letter(*b) {
+            return Some((s, i + 1));
         }
-        s = take(s, b);
-        if s.m >= 1_000_000_000_000_000 {
-            return Mantissa::Large;
+        s = take(s, *b);
+        if s.m >= LARGE {
+            return None;
         }
     }
-    Mantissa::Read(s, i)
+    Some((s, raw.len()))
 }
 
 // The difference a - b, if it is within 22 of 0.
-fn gap(a: u64, b: u64) -> Power
+fn gap(a: u128, b: u128) -> Option<i64>
     ensures { Reaches (sub_ℕ a b) result }
 {
-    if a >= b {
-        let up = a - b;
-        if up <= 22 {
-            return Power::Ranged(with_sign(false, up));
-        }
-        return Power::Beyond;
+    let size = a.abs_diff(b);
+    if size > REACH {
+        return None;
     }
-    let down = b - a;
-    if down <= 22 {
-        return Power::Ranged(with_sign(true, down));
-    }
-    Power::Beyond
+    Some(with_sign(a < b, size as u64))
 }
 
 // The power of ten of a pair, if it is within 22 of 0: the zeros that were dropped, the exponent, less the places after the point.
-fn ten_power(zeros: u64, places: u64, exponent: Whole) -> Power
+fn ten_power(zeros: u64, places: u64, exponent: Whole) -> Option<i64>
     ensures { Reaches (power_of zeros places exponent.negative exponent.magnitude) result }
 {
-    let n = exponent.magnitude;
+    let up = u128::from(zeros);
+    let down = u128::from(places);
+    let n = u128::from(exponent.magnitude);
     if exponent.negative {
-        if zeros >= places {
-            return gap(zeros - places, n);
-        }
-        let below = places - zeros;
-        if below > 22 {
-            return Power::Beyond;
-        }
-        if n > 22 {
-            return Power::Beyond;
-        }
-        return gap(0, below + n);
+        gap(up, down + n)
+    } else {
+        gap(up + n, down)
     }
-    if places >= n {
-        return gap(zeros, places - n);
-    }
-    let above = n - places;
-    if zeros > 22 {
-        return Power::Beyond;
-    }
-    if above > 22 {
-        return Power::Beyond;
-    }
-    gap(zeros + above, 0)
 }
 
-// The pair of a numeral: its value as m times ten to the e, where m is no multiple of ten, or both are 0.
-pub fn pair(text: &[u8], at: usize, end: usize) -> Numeral
+// The pair of a numeral: its value as m times ten to the e, where m is no multiple of ten, or both are 0. None if it lies out of range.
+pub fn pair(text: &[u8], at: usize, end: usize) -> Option<(i64, i64)>
     requires { (at ≤ end) × (end ≤ length text.now) }
     ensures { pair_in result ≡ spec.pair_of (slice at end text.now) }
 {
-    let mantissa = read(text, at, end);
-    let Mantissa::Read(s, next) = mantissa else {
-        return Numeral::Out;
-    };
+    let raw = &text[at..end];
+    let (s, next) = read(raw)?;
     if s.m == 0 {
-        return Numeral::Pair(0, 0);
+        return Some((0, 0));
     }
-    let exponent = integer(text, next, end);
-    let power = ten_power(s.zeros, s.places, exponent);
-    let Power::Ranged(e) = power else {
-        return Numeral::Out;
-    };
-    let sign = is_negative(text, at, end);
-    let m = with_sign(sign, s.m);
-    Numeral::Pair(m, e)
+    let e = ten_power(s.zeros, s.places, integer_of(&raw[next..]))?;
+    Some((with_sign(is_negative(raw), s.m), e))
 }

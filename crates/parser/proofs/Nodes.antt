@@ -14,17 +14,16 @@ use Rattle.json_text.specs.Tree.{Members}
 use Rattle.json_text.specs.Machine.{Frame, is_blank}
 use Rattle.json_text.specs.Machine.Role.{name}
 use Rattle.json_text.specs.Machine.Mode.{name1, colon, chars}
-use Rattle.json_text.specs.Says.{from, Within, Stays, Skips, blanks, chars_of, closed_of, ReadsString, Unescaped, type_start, Typed, Placed, Leaf, Scalar}
-use Rattle.json_text.specs.declared.Scan.{Scan}
-use Rattle.json_text.specs.declared.Scan.TheVariants.{End, Bad}
+use Rattle.json_text.specs.Says.{Scan, from, Stays, Skips, blanks, chars_of, closed_of, ReadsString, Unescaped, type_start, Typed, Placed, Scalar}
+use Rattle.std.specs.Prelude.{Ok, Err}
+use Rattle.json_text.specs.declared.BadByte.{BadByte}
 use Rattle.json_text.specs.Steps.{name-quote, name-no, colon-yes, colon-no}
 use Rattle.json_text.specs.Laws.{over-blank}
 use Rattle.json_text.proofs.Moves.{moves, dies, short, stays-none}
 use Rattle.json_text.proofs.Parts.{string-start, string-run, string-shut}
 use Rattle.scalars.proofs.Leaves.{quoted-of, scalar-string}
-use Rattle.parser.specs.Says.{Fits, Wrote, Quote, Ready, Atom, Colons, Names, Begins, Follows}
-use Rattle.parser.specs.declared.Next.TheVariants as next
-use Rattle.parser.specs.declared.Walk.TheVariants as walk
+use Rattle.parser.specs.Says.{Fits, Wrote, Quote, Ready, Atom, Colons, Names}
+use Rattle.parser.specs.declared.Stop.TheVariants.{Bad}
 
 -- three words are written at n
 pub three : (t₀ : List ℕ) (n u v w : ℕ) → n + 2 < length t₀ → Wrote t₀ (set (set (set t₀ n u) (n + 1) v) (n + 2) w) n u v w
@@ -52,14 +51,10 @@ three t₀ n u v w h =
     }
 
 -- the node of a value that opens no level
-module _ (x : List ℕ) (at : ℕ) (r : Scan) (s : Scalar x at r) where
-  leaf : {e : ℕ} → r ≡ End e → Leaf x at e
+module _ (x : List ℕ) (at : ℕ) where
+  pub atom-fits : {t : List ℕ} {n e : ℕ} → Scalar x at (Ok e) → Ready x t at 0 32 n → Fits t n at e (n + 3)
   unfolding Scalar
-  leaf q = rw q at s
-
-  pub atom-fits : {t : List ℕ} {n e : ℕ} → r ≡ End e → Ready x t at 0 32 n → Fits t n at e (n + 3)
-  atom-fits q k =
-      let f = leaf q in
+  atom-fits f k =
       record {
         room = omega (arith, f.more, f.inside, k.words, k.fits);
         start = omega (arith, f.more, f.inside, k.texts);
@@ -67,31 +62,21 @@ module _ (x : List ℕ) (at : ℕ) (r : Scan) (s : Scalar x at r) where
         next = omega (arith, f.more, f.inside, k.texts, k.fits);
       }
 
-  pub atom-read : {t₀ t : List ℕ} {n e : ℕ} → r ≡ End e → Wrote t₀ t n at e (n + 3) → Atom x t₀ t at n (walk.Read e (n + 3))
-  unfolding Atom
-  atom-read q w = record { leaf = leaf q; wrote = w; width = refl }
-
-  pub atom-bad : (t₀ t : List ℕ) (n q : ℕ) → r ≡ Bad q → Atom x t₀ t at n (walk.Bad q)
+  pub atom-read : {t₀ t : List ℕ} {n e : ℕ} → Scalar x at (Ok e) → Wrote t₀ t n at e (n + 3) → Atom x t₀ t at n (Ok (record { end = e; free = n + 3 }))
   unfolding Atom Scalar
-  atom-bad t₀ t n q e = rw e at s
+  atom-read f w = record { leaf = f; wrote = w; width = refl }
 
--- a string as a value, and its node
-module _ {x : List ℕ} {at : ℕ} {r : Scan} (b : Quote x at) (s : ReadsString x (at + 1) r) where
-  text-scalar : Scalar x at r
-  text-scalar = scalar-string x at b.there b.byte s
+  pub atom-bad : (t₀ t : List ℕ) (n : ℕ) (b : BadByte) → Scalar x at (Err b) → Atom x t₀ t at n (Err (Bad b.at))
+  unfolding Atom Scalar
+  atom-bad t₀ t n b f = f
 
-  pub text-fits : {t : List ℕ} {n e : ℕ} → r ≡ End e → Ready x t at 0 32 n → Fits t n at e (n + 3)
-  text-fits q k = atom-fits x at r text-scalar q k
-
-  pub text-read : {t₀ t : List ℕ} {n e : ℕ} → r ≡ End e → Wrote t₀ t n at e (n + 3) → Atom x t₀ t at n (walk.Read e (n + 3))
-  text-read q w = atom-read x at r text-scalar q w
-
-  pub text-bad : (t₀ t : List ℕ) (n q : ℕ) → r ≡ Bad q → Atom x t₀ t at n (walk.Bad q)
-  text-bad t₀ t n q e = atom-bad x at r text-scalar t₀ t n q e
+-- a string as a value
+pub text-scalar : {x : List ℕ} {at : ℕ} {r : Scan} → Quote x at → ReadsString x (at + 1) r → Scalar x at r
+text-scalar {x} {at} b s = scalar-string x at b.there b.byte s
 
 -- a colon, at once or after blanks
 module _ (x : List ℕ) (at : ℕ) where
-  colon-at : {i : ℕ} → Stays blanks x at i → i < length x → get_or x i 0 ≡ 58 → Colons x at (End (i + 1))
+  colon-at : {i : ℕ} → Stays blanks x at i → i < length x → get_or x i 0 ≡ 58 → Colons x at (Ok (i + 1))
   unfolding Colons
   colon-at {i} y h c = record {
     goes = λ p ms key ks. y.same _ tt ks ∙ moves x _ ks i _ _ h (colon-yes 32 x i _ c p ms _ ks);
@@ -99,65 +84,59 @@ module _ (x : List ℕ) (at : ℕ) where
     inside = omega arith;
   }
 
-  pub colon-once : at < length x → get_or x at 0 ≡ 58 → Colons x at (End (at + 1))
+  pub colon-once : at < length x → get_or x at 0 ≡ 58 → Colons x at (Ok (at + 1))
   colon-once h c = colon-at (stays-none blanks x at (omega arith)) h c
 
   module _ {i : ℕ} (k : Skips blanks is_blank x at i) where
-    pub colon-out : length x ≤ i → Colons x at (Bad i)
+    pub colon-out : {b : BadByte} → length x ≤ i → b.at ≡ i → Colons x at (Err b)
     unfolding Colons
-    colon-out h = λ p ms key ks. k.stays.same _ tt ks ∙ short x _ ks i refl h
+    colon-out h e = λ p ms key ks. rw e (k.stays.same _ tt ks ∙ short x _ ks i refl h)
 
-    pub colon-wrong : i < length x → (get_or x i 0 ≡ 58 → ⊥) → Colons x at (Bad i)
+    pub colon-wrong : i < length x → (get_or x i 0 ≡ 58 → ⊥) → Colons x at (Err (record { at = i }))
     unfolding Colons
     colon-wrong h c = λ p ms key ks. k.stays.same _ tt ks ∙ dies x _ ks i h (colon-no 32 x i _ (k.stop h) c p ms _ ks)
 
-    pub colon-there : i < length x → get_or x i 0 ≡ 58 → Colons x at (End (i + 1))
+    pub colon-there : i < length x → get_or x i 0 ≡ 58 → Colons x at (Ok (i + 1))
     colon-there h c = colon-at k.stays h c
 
 -- a name, after the blanks before it
-pub string-high : {x : List ℕ} {at e : ℕ} {r : Scan} → ReadsString x at r → r ≡ End e → e ≤ length x
-string-high {x} {at} {e} {r} s q = let w : Within (at + 1) (length x) (End e) = rw q at s.past in w.1
-
-pub string-small : {x : List ℕ} {at e : ℕ} {r : Scan} → ReadsString x at r → r ≡ End e → length x ≤ 65535 → e < 2 ^ 32
-string-small s q l = let h = string-high s q in omega arith
-
-string-low : {x : List ℕ} {at e : ℕ} {r : Scan} → ReadsString x at r → r ≡ End e → at + 1 ≤ e
-string-low {x} {at} {e} {r} s q = let w : Within (at + 1) (length x) (End e) = rw q at s.past in w.0
+pub string-small : {x : List ℕ} {at e : ℕ} → ReadsString x at (Ok e) → length x ≤ 65535 → e < 2 ^ 32
+string-small s l = let w = s.past in omega (arith, w.1)
 
 module _ {x : List ℕ} {at i : ℕ} (k : Skips blanks is_blank x at i) where
-  pub name_out : (t₀ t : List ℕ) (n : ℕ) → length x ≤ i → Names x t₀ t at n (Bad i)
+  pub name_out : (t₀ t : List ℕ) (n : ℕ) {b : BadByte} → length x ≤ i → b.at ≡ i → Names x t₀ t at n (Err b)
   unfolding Names
-  name_out t₀ t n l = λ p ms ks. k.stays.same (name1 p ms) tt ks ∙ short x (name1 p ms) ks i refl l
+  name_out t₀ t n l e = λ p ms ks. rw e (k.stays.same (name1 p ms) tt ks ∙ short x (name1 p ms) ks i refl l)
 
-  pub name-wrong : (t₀ t : List ℕ) (n : ℕ) → i < length x → (get_or x i 0 ≡ 34 → ⊥) → Names x t₀ t at n (Bad i)
+  pub name-wrong : (t₀ t : List ℕ) (n : ℕ) → i < length x → (get_or x i 0 ≡ 34 → ⊥) → Names x t₀ t at n (Err (record { at = i }))
   unfolding Names
   name-wrong t₀ t n l h = λ p ms ks. k.stays.same (name1 p ms) tt ks ∙ dies x (name1 p ms) ks i l (name-no 32 x i _ (k.stop l) h p ms ks)
 
-  module _ {r : Scan} (l : i < length x) (b : get_or x i 0 ≡ 34) (s : ReadsString x (i + 1) r) where
-    pub name-break : (t₀ t : List ℕ) (n q : ℕ) → r ≡ Bad q → Names x t₀ t at n (Bad q)
+  module _ (l : i < length x) (b : get_or x i 0 ≡ 34) where
+    pub name-break : (t₀ t : List ℕ) (n : ℕ) {q : BadByte} → ReadsString x (i + 1) (Err q) → Names x t₀ t at n (Err q)
     unfolding Names chars_of
-    name-break t₀ t n q e =
+    name-break t₀ t n s =
         λ p ms ks. k.stays.same (name1 p ms) tt ks ∙ moves x (name1 p ms) ks i (chars (name p ms) i) ks l (name-quote 32 x i _ b p ms ks)
-        ∙ (rw e at (s.reads.same (record { role = name p ms; begun = i }) ks))
+        ∙ s.reads.same (record { role = name p ms; begun = i }) ks
 
-    module _ {e : ℕ} (q : r ≡ End e) where
+    module _ {e : ℕ} (s : ReadsString x (i + 1) (Ok e)) where
       called : (p : ℕ) (ms : Members) (ks : List Frame) → from x (name1 p ms) ks at ≡ from x (colon p ms (record { place = i; end = e; raw = slice (i + 1) (e - 1) x })) ks e
       unfolding chars_of closed_of
       called p ms ks =
           k.stays.same (name1 p ms) tt ks ∙ moves x (name1 p ms) ks i (chars (name p ms) i) ks l (name-quote 32 x i _ b p ms ks)
-          ∙ (rw q at (s.reads.same (record { role = name p ms; begun = i }) ks))
+          ∙ s.reads.same (record { role = name p ms; begun = i }) ks
 
       -- and its colon
       pub named : (t₀ t : List ℕ) (n : ℕ) (v : Scan) → Wrote t₀ t n i e (n + 3) → Colons x e v → Names x t₀ t at n v
       unfolding Names Colons
-      named t₀ t n (Bad p) w y = λ p ms ks. called p ms ks ∙ y p ms _ ks
-      named t₀ t n (End j) w y =
-          let lo = string-low s q in
+      named t₀ t n (Err p) w y = λ p ms ks. called p ms ks ∙ y p ms _ ks
+      named t₀ t n (Ok j) w y =
+          let lo = s.past in
           record {
             key = record { place = i; end = e; raw = slice (i + 1) (e - 1) x };
-            stands = quoted-of w.placed (omega arith) (string-high s q) b;
+            stands = quoted-of w.placed (omega (arith, lo.0)) lo.1 b;
             goes = λ p ms ks. called p ms ks ∙ y.goes p ms _ ks;
-            more = omega (arith, k.stays.low, y.more);
+            more = omega (arith, k.stays.low, y.more, lo.0);
             inside = y.inside;
             long = w.long;
             below = w.below;
@@ -176,7 +155,7 @@ letter j l =
     record { no-quote = λ e. omega arith; no-backslash = λ e. omega arith; no-control = omega arith }
 
 module _ {x : List ℕ} {at : ℕ} {r : Bool} (k : Typed x at r) (q : r ≡ true) where
-  type-string : ReadsString x (at + 1) (End (at + 6))
+  type-string : ReadsString x (at + 1) (Ok (at + 6))
   unfolding ascii
   type-string =
       let h = k.inside q in
@@ -188,42 +167,11 @@ module _ {x : List ℕ} {at : ℕ} {r : Bool} (k : Typed x at r) (q : r ≡ true
   pub type-fits : {t : List ℕ} {n : ℕ} → Ready x t at 0 32 n → Fits t n at (at + 6) (n + 3)
   type-fits y = let h = k.inside q in record { room = omega (arith, y.words, y.fits); start = omega (arith, y.texts); end = omega (arith, y.texts); next = omega (arith, y.texts, y.fits) }
 
-  pub type-named : (t₀ t : List ℕ) (n : ℕ) → Wrote t₀ t n at (at + 6) (n + 3) → Names x t₀ t at n (End (at + 7))
+  pub type-named : (t₀ t : List ℕ) (n : ℕ) → Wrote t₀ t n at (at + 6) (n + 3) → Names x t₀ t at n (Ok (at + 7))
   unfolding ascii
   type-named t₀ t n w =
       let h = k.inside q in
       let z : at + 0 ≡ at = omega arith in
       let b : get_or x at 0 ≡ 34 = rw z at (k.same q 0 (omega arith)) in
       let f : at + 6 + 1 ≡ at + 7 = omega arith in
-      rw f at (named (at-quote (omega arith) b) (omega arith) b type-string refl t₀ t n _ w (colon-once x (at + 6) (omega arith) (k.same q 6 (omega arith))))
-
--- what stands after blanks in a container that the byte c closes
-module _ {x : List ℕ} {at i : ℕ} (c : ℕ) (k : Skips blanks is_blank x at i) where
-  pub opens-out : length x ≤ i → Begins x at c (next.Bad i)
-  unfolding Begins
-  opens-out h = (k, h)
-
-  pub follows-out : length x ≤ i → Follows x at c (next.Bad i)
-  unfolding Follows
-  follows-out h = record { skips = k; wrong = λ l. absurd (omega arith) }
-
-  module _ (h : i < length x) where
-    pub opens-closed : get_or x i 0 ≡ c → Begins x at c (next.Closed i)
-    unfolding Begins
-    opens-closed e = record { skips = k; there = h; byte = e }
-
-    pub opens-more : (get_or x i 0 ≡ c → ⊥) → Begins x at c (next.More i)
-    unfolding Begins
-    opens-more e = record { skips = k; there = h; byte = e }
-
-    pub follows-closed : get_or x i 0 ≡ c → Follows x at c (next.Closed i)
-    unfolding Follows
-    follows-closed e = record { skips = k; there = h; byte = e }
-
-    pub follows-comma : get_or x i 0 ≡ 44 → Follows x at c (next.More i)
-    unfolding Follows
-    follows-comma e = record { skips = k; there = h; byte = e }
-
-    pub follows-wrong : (get_or x i 0 ≡ 44 → ⊥) → (get_or x i 0 ≡ c → ⊥) → Follows x at c (next.Bad i)
-    unfolding Follows
-    follows-wrong e f = record { skips = k; wrong = λ l. (e, f) }
+      rw f at (named (at-quote (omega arith) b) (omega arith) b type-string t₀ t n _ w (colon-once x (at + 6) (omega arith) (k.same q 6 (omega arith))))

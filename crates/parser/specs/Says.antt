@@ -1,16 +1,42 @@
 -- What the parts of the parser say of the machine and of the table.
-use Rattle.std.specs.Prelude.{ℕ, ◌+◌, ◌*◌, ◌^◌, ◌≤◌, ◌<◌, ◌≡◌, List, ◌∷◌, length, get_or}
+use Rattle.std.specs.Prelude.{ℕ, ◌+◌, ◌*◌, ◌^◌, ◌≤◌, ◌<◌, ◌≡◌, List, ◌∷◌, length, get_or, Result, Ok, Err}
 use Rattle.json_text.specs.Tree.{Json, Members, Name}
 use Rattle.json_text.specs.Machine.{Frame, Mode, bad, too_deep, object, is_blank}
-use Rattle.json_text.specs.Machine.Mode.{want, name1, colon, got}
+use Rattle.json_text.specs.Machine.Mode.{want, first, name0, name1, colon, got}
 use Rattle.json_text.specs.Table.{size, Sub, Quoted}
-use Rattle.json_text.specs.Says.{from, Skips, blanks, Placed, Leaf}
-use Rattle.json_text.specs.declared.Scan.{Scan}
-use Rattle.json_text.specs.declared.Scan.TheVariants as scan
+use Rattle.json_text.specs.Says.{Scan, from, Skips, blanks, Placed, Leaf}
+use Rattle.json_text.specs.declared.BadByte.{BadByte}
+use Rattle.json_text.specs.declared.Unread.{Unread}
+use Rattle.json_text.specs.declared.Unread.TheVariants as unread
+use Rattle.parser.specs.declared.Kind.{Kind}
+use Rattle.parser.specs.declared.Kind.TheVariants.{Array, Object}
 use Rattle.parser.specs.declared.Next.{Next}
-use Rattle.parser.specs.declared.Next.TheVariants as next
-use Rattle.parser.specs.declared.Walk.{Walk}
-use Rattle.parser.specs.declared.Walk.TheVariants as walk
+use Rattle.parser.specs.declared.Next.TheVariants.{Closed, More}
+use Rattle.parser.specs.declared.Stop.{Stop}
+use Rattle.parser.specs.declared.Stop.TheVariants.{Bad, Deep}
+use Rattle.parser.specs.declared.Taken.{Taken}
+
+-- what a value is found to be: what it takes, or why none is read
+abbrev pub Walk : Type 0
+Walk = Result Taken Stop
+
+-- the same reason, as that of a text
+abbrev pub unread_of : Stop → Unread
+unread_of (Bad q) = unread.Bad q
+unread_of (Deep q) = unread.Deep q
+
+-- the bytes that open and close a container, and the mode after the first
+abbrev pub opener : Kind → ℕ
+opener Array = 91
+opener Object = 123
+
+abbrev pub closer : Kind → ℕ
+closer Array = 93
+closer Object = 125
+
+abbrev pub start : Kind → ℕ → Mode
+start Array at = first at
+start Object at = name0 at
 
 -- what `put_node` asks: room for three words at i, and numbers that fit a word
 pub record Fits (t : List ℕ) (i p e n : ℕ) : Type 0 where
@@ -39,9 +65,9 @@ pub record Atomic (x t₀ t : List ℕ) (at n e k : ℕ) : Type 0 where
 
 -- what `atom` tells
 unfoldable pub Atom : List ℕ → List ℕ → List ℕ → ℕ → ℕ → Walk → Type 0
-Atom x t₀ t at n (walk.Read e k) = Atomic x t₀ t at n e k
-Atom x t₀ t at n (walk.Bad q) = (ks : List Frame) → from x want ks at ≡ bad q
-Atom x t₀ t at n (walk.Deep q) = (ks : List Frame) → from x want ks at ≡ too_deep q
+Atom x t₀ t at n (Ok v) = Atomic x t₀ t at n v.end v.free
+Atom x t₀ t at n (Err (Bad q)) = (ks : List Frame) → from x want ks at ≡ bad q
+Atom x t₀ t at n (Err (Deep q)) = (ks : List Frame) → from x want ks at ≡ too_deep q
 
 -- Room for what is to be read at the offset at, where levels more containers may be opened, most in all, and n is the first free word:
 -- twice the words are at most three for each byte before and three for each container that is open
@@ -72,11 +98,11 @@ pub record Read (x t₀ t : List ℕ) (m : Mode) (at levels most n e n' : ℕ) :
   pub below : (k : ℕ) → k < n → get_or t k 0 ≡ get_or t₀ k 0
   pub above : (k : ℕ) → n' ≤ k → get_or t k 0 ≡ get_or t₀ k 0
 
--- what `value`, `array` and `object` tell: a value was read; or the machine stops at a place, or finds a level too many there
+-- what `value` and `container` tell: a value was read; or the machine stops at a place, or finds a level too many there
 unfoldable pub Told : List ℕ → List ℕ → List ℕ → Mode → ℕ → ℕ → ℕ → ℕ → Walk → Type 0
-Told x t₀ t m at levels most n (walk.Read e n') = Read x t₀ t m at levels most n e n'
-Told x t₀ t m at levels most n (walk.Bad q) = (ks : List Frame) → length ks + levels ≡ most → from x m ks at ≡ bad q
-Told x t₀ t m at levels most n (walk.Deep q) = (ks : List Frame) → length ks + levels ≡ most → from x m ks at ≡ too_deep q
+Told x t₀ t m at levels most n (Ok v) = Read x t₀ t m at levels most n v.end v.free
+Told x t₀ t m at levels most n (Err (Bad q)) = (ks : List Frame) → length ks + levels ≡ most → from x m ks at ≡ bad q
+Told x t₀ t m at levels most n (Err (Deep q)) = (ks : List Frame) → length ks + levels ≡ most → from x m ks at ≡ too_deep q
 
 -- the colon after a name, up to before e
 pub record Coloned (x : List ℕ) (at e : ℕ) : Type 0 where
@@ -86,8 +112,8 @@ pub record Coloned (x : List ℕ) (at e : ℕ) : Type 0 where
 
 -- what `colon` tells
 unfoldable pub Colons : List ℕ → ℕ → Scan → Type 0
-Colons x at (scan.End e) = Coloned x at e
-Colons x at (scan.Bad q) = (p : ℕ) (ms : Members) (key : Name) (ks : List Frame) → from x (colon p ms key) ks at ≡ bad q
+Colons x at (Ok e) = Coloned x at e
+Colons x at (Err b) = (p : ℕ) (ms : Members) (key : Name) (ks : List Frame) → from x (colon p ms key) ks at ≡ bad b.at
 
 -- the name of a member and its colon, up to before e; its three words stand in the table from n on
 pub record Named (x t₀ t : List ℕ) (at n e : ℕ) : Type 0 where
@@ -102,8 +128,8 @@ pub record Named (x t₀ t : List ℕ) (at n e : ℕ) : Type 0 where
 
 -- what `member_name` tells
 unfoldable pub Names : List ℕ → List ℕ → List ℕ → ℕ → ℕ → Scan → Type 0
-Names x t₀ t at n (scan.End e) = Named x t₀ t at n e
-Names x t₀ t at n (scan.Bad q) = (p : ℕ) (ms : Members) (ks : List Frame) → from x (name1 p ms) ks at ≡ bad q
+Names x t₀ t at n (Ok e) = Named x t₀ t at n e
+Names x t₀ t at n (Err b) = (p : ℕ) (ms : Members) (ks : List Frame) → from x (name1 p ms) ks at ≡ bad b.at
 
 -- after the blanks from at on stands, at i, the byte b
 pub record Then (x : List ℕ) (at b i : ℕ) : Type 0 where
@@ -123,16 +149,16 @@ pub record Neither (x : List ℕ) (at c q : ℕ) : Type 0 where
   pub wrong : q < length x → (get_or x q 0 ≡ 44 → ⊥) × (get_or x q 0 ≡ c → ⊥)
 
 -- what `opening` tells: the byte c, or another, is the first that is no blank, or there is none
-unfoldable pub Begins : List ℕ → ℕ → ℕ → Next → Type 0
-Begins x at c (next.Closed i) = Then x at c i
-Begins x at c (next.More i) = Other x at c i
-Begins x at c (next.Bad q) = (Skips blanks is_blank x at q) × (length x ≤ q)
+abbrev pub Begins : List ℕ → ℕ → ℕ → Result Next BadByte → Type 0
+Begins x at c (Ok (Closed i)) = Then x at c i
+Begins x at c (Ok (More i)) = Other x at c i
+Begins x at c (Err b) = (Skips blanks is_blank x at b.at) × (length x ≤ b.at)
 
 -- what `after` tells: the byte c, or a comma, is the first that is no blank, or neither is
-unfoldable pub Follows : List ℕ → ℕ → ℕ → Next → Type 0
-Follows x at c (next.Closed i) = Then x at c i
-Follows x at c (next.More i) = Then x at 44 i
-Follows x at c (next.Bad q) = Neither x at c q
+abbrev pub Follows : List ℕ → ℕ → ℕ → Result Next BadByte → Type 0
+Follows x at c (Ok (Closed i)) = Then x at c i
+Follows x at c (Ok (More i)) = Then x at 44 i
+Follows x at c (Err b) = Neither x at c b.at
 
 -- a member, up to before e: its name, whose words stand in the table from n on, and its value, whose words follow, up to k
 pub record Membered (x t₀ t : List ℕ) (at levels n e k : ℕ) : Type 0 where
@@ -151,6 +177,11 @@ pub record Membered (x t₀ t : List ℕ) (at levels n e k : ℕ) : Type 0 where
 
 -- what `member` tells
 unfoldable pub Member : List ℕ → List ℕ → List ℕ → ℕ → ℕ → ℕ → Walk → Type 0
-Member x t₀ t at levels n (walk.Read e k) = Membered x t₀ t at levels n e k
-Member x t₀ t at levels n (walk.Bad q) = (p : ℕ) (ms : Members) (ks : List Frame) → length ks + levels ≡ 31 → from x (name1 p ms) ks at ≡ bad q
-Member x t₀ t at levels n (walk.Deep q) = (p : ℕ) (ms : Members) (ks : List Frame) → length ks + levels ≡ 31 → from x (name1 p ms) ks at ≡ too_deep q
+Member x t₀ t at levels n (Ok v) = Membered x t₀ t at levels n v.end v.free
+Member x t₀ t at levels n (Err (Bad q)) = (p : ℕ) (ms : Members) (ks : List Frame) → length ks + levels ≡ 31 → from x (name1 p ms) ks at ≡ bad q
+Member x t₀ t at levels n (Err (Deep q)) = (p : ℕ) (ms : Members) (ks : List Frame) → length ks + levels ≡ 31 → from x (name1 p ms) ks at ≡ too_deep q
+
+-- what `entry` tells
+abbrev pub Entered : Kind → List ℕ → List ℕ → List ℕ → ℕ → ℕ → ℕ → Walk → Type 0
+Entered Array x t₀ t at levels n r = Told x t₀ t want at levels 32 n r
+Entered Object x t₀ t at levels n r = Member x t₀ t at levels n r

@@ -1,5 +1,5 @@
 -- The numbers of linked objects.
-use Prim.Native.Nat.{ℕ, ◌+◌, ◌-◌, ◌≤◌, ◌<◌}
+use Prim.Native.Nat.{ℕ, ◌+◌, ◌≤◌, ◌<◌}
 use Prim.Native.String.{String}
 use mathlib.Core.Path.{◌≡◌, refl, sym, ap, ◌∙◌}
 use mathlib.Core.List.{List, [], ◌∷◌, ◌++◌, map, append_assoc, append-nil}
@@ -14,8 +14,10 @@ use Rattle.rows.specs.Rows.{link_number, link_numbers}
 use Rattle.model.specs.Code.{concat_map, All}
 use Rattle.model.specs.Model.{rec, lay_rec, object_number}
 use Rattle.model.specs.Read.{or_null}
-use Rattle.writer.specs.Writes.{Writes, Stores, Closes}
-use Rattle.writer.specs.Laws.{nothing, then, as_bytes}
+use Rattle.std.specs.Borrow.{MutBor}
+use Rattle.std.specs.Fn.{Once}
+use Rattle.writer.specs.Writes.{Writes, Stores, Recorded}
+use Rattle.writer.specs.Laws.{nothing, then, as_bytes, recorded_writes}
 use Rattle.arrays.specs.Fits.{Elements}
 use Rattle.geometry_records.specs.Fits.{Perhaps}
 use Rattle.geometry_records.specs.Bytes.{each_in}
@@ -50,12 +52,16 @@ module _ {ns : List ℕ} {j : ℕ} {d₀ d : List ℕ} {to at : ℕ} (p : Number
   numbering-done h = as_bytes (sym (p.all-is ∙ (ap (λ (l : List ℕ). p.done ++ concat_map (le 4) l) (drop_of_length-le ns {i = j} h) ∙ append-nil p.done))) p.wrote
 
 -- its record
-pub link-wrote : {kind : ℕ} (row : List ℕ) {d₀ d d' : List ℕ} {at body end : ℕ} → Writes (concat_map (le 4) row) d₀ d body end → Closes kind at body end d d' → Writes (link_bytes kind row) d₀ d' at end
+pub link-recorded : {F : Type 0} {g : Once F (MutBor (List ℕ) × (ℕ × Unit {0})) (ℕ × (MutBor (List ℕ) × Unit {0}))} {h : F}
+    {kind : ℕ} (row : List ℕ) {d₀ d : List ℕ} {at r : ℕ} → Recorded g h kind d₀ d at r
+    → ((p q : MutBor (List ℕ)) (body end : ℕ) → g.post h (p, (body, tt)) (end, (q, tt)) → Writes (concat_map (le 4) row) p.now q.now body end)
+    → Writes (link_bytes kind row) d₀ d at r
 unfolding link_bytes
-link-wrote row w c = c.closes _ _ w
+link-recorded row c w = recorded_writes c w
 
-pub payload-onward : {ws d₀ d : List ℕ} {to r : ℕ} → Writes ws d₀ d to r → to ≤ r
-payload-onward w = w.onward
+-- no bytes
+pub nothing_as : {d d' : List ℕ} {to r : ℕ} → d' ≡ d → r ≡ to → Writes [] d d' to r
+nothing_as {d} {to = to} e q = rw (e, q) (nothing d to)
 
 pub links-wrote : {a b c p d₀ d₁ d₂ : List ℕ} {to m r : ℕ} → Writes (link_bytes 4 a) d₀ d₁ to m → Writes (link_bytes 5 b) d₁ d₂ m r → a ≡ c → b ≡ p → LinksWrote c p d₀ d₂ to r
 links-wrote u w e f = record { is = rw (← e, ← f) (then u w) }

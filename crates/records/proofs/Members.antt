@@ -4,7 +4,7 @@ use mathlib.Core.List.{List}
 use Rattle.utf8.specs.Ascii.{ascii}
 use Rattle.nodes.specs.Access.{members, first_named}
 use Rattle.nodes.specs.Says.{Seeks, Gives, GivesFound}
-use Rattle.nodes.specs.declared.Found.{Found}
+use Rattle.nodes.specs.Says.{Found}
 use Rattle.fields.specs.Fields.{text_in, type_text}
 use Rattle.words.specs.Words.{object_words, code_of}
 use Rattle.model.specs.Model.{lay_three, lay_decimal}

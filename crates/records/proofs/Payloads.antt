@@ -16,8 +16,10 @@ use Rattle.ids.proofs.Rules.{name-text}
 use Rattle.model.specs.Code.{signed, concat_map}
 use Rattle.model.specs.Model.{lay_three}
 use Rattle.model.specs.Read.{get, integer_of, three_of}
-use Rattle.writer.specs.Writes.{Writes, Closes}
-use Rattle.writer.specs.Laws.{then}
+use Rattle.std.specs.Borrow.{MutBor}
+use Rattle.std.specs.Fn.{Once}
+use Rattle.writer.specs.Writes.{Writes, Recorded}
+use Rattle.writer.specs.Laws.{then, recorded_writes}
 use Rattle.arrays.specs.Says.{Wrote}
 use Rattle.arrays.specs.Laws.{wrote_then}
 use Rattle.geometry_records.proofs.Payloads.{IsRecord}
@@ -47,9 +49,12 @@ module _ {x t : List ℕ} {own : ℕ} where
   unfolding identity_payload
   identity-parts g u w = record { is = λ m a. rw (← g.is m.1 a.value) (then u (w.is m a)) }
 
-  pub identity-closed : {d₀ d d' : List ℕ} {at body end : ℕ} → MemberWrote identity_payload x t own d₀ d body end → Closes 3 at body end d d' → IdentityWrote x t own d₀ d' at end
+  pub identity-recorded : {F : Type 0} {g : Once F (MutBor (List ℕ) × (ℕ × Unit {0})) (ℕ × (MutBor (List ℕ) × Unit {0}))} {h : F}
+      {d₀ d : List ℕ} {at r : ℕ} → Recorded g h 3 d₀ d at r
+      → ((p q : MutBor (List ℕ)) (body end : ℕ) → g.post h (p, (body, tt)) (end, (q, tt)) → MemberWrote identity_payload x t own p.now q.now body end)
+      → IdentityWrote x t own d₀ d at r
   unfolding identity_payload identity_bytes
-  identity-closed w c = record { is = λ m a. c.closes _ _ (w.is m a) }
+  identity-recorded c w = record { is = λ m a. recorded_writes c (λ p q body end e. (w p q body end e).is m a) }
 
   pub member-wrote-onward : {f : Member → List ℕ} {d₀ d : List ℕ} {to r : ℕ} → MemberNode x t own → MemberWrote f x t own d₀ d to r → to ≤ r
   member-wrote-onward n w = (w.is n.it n.stands).onward

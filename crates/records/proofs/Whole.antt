@@ -7,7 +7,7 @@ use mathlib.Core.List.{List, [], ◌∷◌, ◌++◌, append_assoc, append-nil}
 use lib.ListN.{length, get_or, drop, drop_of_length-le}
 use lib.Seq.{drop-cons}
 use Rattle.utf8.specs.Ascii.{ascii}
-use Rattle.nodes.specs.Access.{Member, members, find}
+use Rattle.nodes.specs.Access.{Member, find}
 use Rattle.fields.specs.Fields.{objects_of}
 use Rattle.ids.specs.Says.{Offsets, MemberNode, names_of}
 use Rattle.ids.proofs.Rules.{nobody}
@@ -16,7 +16,7 @@ use Rattle.marks.specs.Says.{RowAt}
 use Rattle.model.specs.Code.{concat_map, All}
 use Rattle.model.specs.Model.{rec, lay_rec}
 use Rattle.model.specs.Read.{get}
-use Rattle.writer.specs.Writes.{Writes, Closes}
+use Rattle.writer.specs.Writes.{Writes}
 use Rattle.writer.specs.Laws.{nothing, then, as_bytes}
 use Rattle.arrays.specs.Fits.{Elements, Triple, Coordinate}
 use Rattle.arrays.specs.Says.{Holds, Wrote}
@@ -132,9 +132,6 @@ module _ {x t : List ℕ} {i k : ℕ} {d₀ d : List ℕ} {to r : ℕ} where
 pub frame-wrote : {x t : List ℕ} {i : ℕ} {d₀ d₁ d₂ : List ℕ} {to m r : ℕ} → Wrote transform_member x t i d₀ d₁ to m → Wrote vertices_member x t i d₁ d₂ m r → Wrote frame_bytes x t i d₀ d₂ to r
 unfolding frame_bytes
 frame-wrote u w = record { is = λ v s. then (u.is v s) (w.is v s) }
-
-pub ending-wrote : {at end : ℕ} {d d' : List ℕ} → Closes 9 at end end d d' → Writes (lay_rec (rec 9 [])) d d' at end
-ending-wrote {end = end} {d = d} c = c.closes [] d (nothing d end)
 
 module _ {x t offsets children parents : List ℕ} (r : Ready x t offsets children parents) where
   pub ready-root : Holds RootFits x t 0

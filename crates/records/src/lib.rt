@@ -28,10 +28,8 @@ fn numbers(row: &[u16], sheet: &mut [u8], at: usize) -> usize
     ensures { Writes (concat_map (le 4) row.now) sheet.old sheet.new at result }
 {
     let mut o = at;
-    let mut j = 0;
-    while j < row.len() {
-        o = writer::put4(sheet, o, marks::word(row, j) as u64);
-        j += 1;
+    for n in row {
+        o = writer::put4(sheet, o, u64::from(*n));
     }
     o
 }
@@ -40,10 +38,7 @@ fn numbers(row: &[u16], sheet: &mut [u8], at: usize) -> usize
 fn link_record(row: &[u16], kind: u64, sheet: &mut [u8], at: usize) -> usize
     ensures { Writes (link_bytes kind row.now) sheet.old sheet.new at result }
 {
-    let body = writer::skip(at, 6);
-    let end = numbers(row, sheet, body);
-    writer::close(sheet, at, body, end, kind);
-    end
+    writer::record(sheet, at, kind, |sheet, body| numbers(row, sheet, body))
 }
 
 // The links of the object of number k: kind 4 for its children, kind 5 for its parents.
@@ -88,10 +83,12 @@ fn identity(text: &[u8], table: &[u32], own: usize, sheet: &mut [u8], at: usize)
     requires { (MemberNode text.now table.now own) × (Node text.now table.now (own + 3)) }
     ensures { IdentityWrote text.now table.now own sheet.old sheet.new at result }
 {
-    let body = writer::skip(at, 6);
-    let end = identity_body(text, table, own, sheet, body);
-    writer::close(sheet, at, body, end, 3);
-    end
+    writer::record(
+        sheet,
+        at,
+        3,
+        |sheet, body| identity_body(text, table, own, sheet, body),
+    )
 }
 
 // The object of number k, whose name stands at node `own`: kinds 3, 4 and 5, and its geometries.
@@ -129,11 +126,8 @@ fn objects(
     ensures { ObjectsWrote text.now table.now offsets.now sheet.old sheet.new at result }
 {
     let mut o = at;
-    let mut k = 0;
-    while k < offsets.len() {
-        let own = offsets[k];
-        o = object(text, table, own, children, parents, k, sheet, o);
-        k += 1;
+    for (k, own) in offsets.iter().enumerate() {
+        o = object(text, table, *own, children, parents, k, sheet, o);
     }
     o
 }
@@ -161,10 +155,12 @@ fn transform(text: &[u8], table: &[u32], i: usize, sheet: &mut [u8], at: usize) 
     requires { Holds TransformFits text.now table.now i }
     ensures { Wrote transform_bytes text.now table.now i sheet.old sheet.new at result }
 {
-    let body = writer::skip(at, 6);
-    let end = transform_body(text, table, i, sheet, body);
-    writer::close(sheet, at, body, end, 1);
-    end
+    writer::record(
+        sheet,
+        at,
+        1,
+        |sheet, body| transform_body(text, table, i, sheet, body),
+    )
 }
 
 // The transform of the root: kind 1.
@@ -181,10 +177,12 @@ fn vertices(text: &[u8], table: &[u32], i: usize, sheet: &mut [u8], at: usize) -
     requires { Holds (Elements (Triple Coordinate)) text.now table.now i }
     ensures { Wrote vertices_bytes text.now table.now i sheet.old sheet.new at result }
 {
-    let body = writer::skip(at, 6);
-    let end = arrays::vertices(text, table, i, sheet, body);
-    writer::close(sheet, at, body, end, 2);
-    end
+    writer::record(
+        sheet,
+        at,
+        2,
+        |sheet, body| arrays::vertices(text, table, i, sheet, body),
+    )
 }
 
 // The vertices of the root.
@@ -200,9 +198,7 @@ fn vertices_in(text: &[u8], table: &[u32], sheet: &mut [u8], at: usize) -> usize
 fn ending(sheet: &mut [u8], at: usize) -> usize
     ensures { Writes (lay_rec (rec 9 [])) sheet.old sheet.new at result }
 {
-    let end = writer::skip(at, 6);
-    writer::close(sheet, at, end, end, 9);
-    end
+    writer::record(sheet, at, 9, |_, body| body)
 }
 
 // What comes before the objects: kinds 1 and 2.

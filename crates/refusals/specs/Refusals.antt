@@ -1,5 +1,7 @@
 -- The rules of docs/RULES.md and their numbers.
 use Rattle.std.specs.Prelude.{ℕ}
+use Rattle.json_text.specs.declared.Unread.{Unread}
+use Rattle.json_text.specs.declared.Unread.TheVariants.{Bad, Deep, Long, Short}
 use Rattle.verdict.specs.Verdict as verdict
 use Rattle.refusals.specs.declared.Broken.{Broken}
 use Rattle.refusals.specs.declared.Broken.TheVariants as broken
@@ -29,3 +31,10 @@ rule_number broken.NoRoom = 18
 -- a refusal as the verdict that it is
 abbrev pub refusal : Refusal → verdict.Verdict
 refusal f = verdict.refused (rule_number f.rule) f.place f.end
+
+-- the refusal of a text that is not read: by rule 3 or 4 at its place, or by rule 1
+unfoldable pub unread_as : Unread → Refusal
+unread_as (Bad p) = record { rule = broken.NotJson; place = p; end = p }
+unread_as (Deep p) = record { rule = broken.TooDeep; place = p; end = p }
+unread_as Long = record { rule = broken.TooLong; place = 65535; end = 65535 }
+unread_as Short = record { rule = broken.TooLong; place = 65535; end = 65535 }

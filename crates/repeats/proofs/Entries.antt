@@ -1,25 +1,27 @@
 -- A trie of names: one name more.
-use Prim.Native.Nat.{ℕ, ◌+◌, ◌-◌, ◌*◌, ◌^◌, ◌≤◌, ◌<◌, min}
-use mathlib.Core.Path.{◌≡◌, refl, sym, ap, ◌∙◌}
+use Prim.Native.Nat.{ℕ, ◌+◌, ◌-◌, ◌*◌, ◌<◌}
+use mathlib.Core.Path.{◌≡◌, refl, sym, ◌∙◌}
 use mathlib.Core.Bool.{Bool, true, false, not, ◌||◌, or-true}
 use mathlib.Core.List.{List, [], ◌∷◌}
 use native.Mathlib.Omega.{arith}
-use lib.ListN.{length, get_or}
+use lib.ListN.{get_or}
 use lib.Dec.{eqb, ltb}
 use borrow.Author.Rules.{rules}
-use borrow.Author.Tests.{eqb-true, eqb-false, ltb-true, ltb-false, not-false}
-use mir.Syntax.{w64}
-use mir.Val.{Fits}
+use borrow.Author.Tests.{eqb-true, eqb-false, ltb-true, ltb-false}
+use Rattle.std.specs.Prelude.{Option, Some}
 use Rattle.utf8.specs.Utf8.{same}
 use Rattle.utf8.specs.Laws.{never, same-equal, same_refl}
-use Rattle.strings.specs.Spans.{Span, decode_at}
+use Rattle.strings.specs.Spans.{decode_at, begin_apart}
+use Rattle.strings.specs.Laws.{apart-differ}
+use Rattle.trie.specs.declared.Place.{Place}
 use Rattle.trie.specs.Trie.{value_of, Walked, Walks, Puts}
 use Rattle.trie.specs.Laws.{reaches-unique}
-use Rattle.nodes.specs.Faults.{fault, least}
-use Rattle.nodes.specs.Reads.{string-first, string-second, string-some, string-fits, string-span, string-low}
+use Rattle.nodes.specs.Faults.{least}
+use Rattle.nodes.specs.Reads.{string-span}
 use Rattle.everywhere.specs.Everywhere.{among}
 use Rattle.everywhere.specs.Says.{text_at}
-use Rattle.repeats.specs.Entries.{NameText, ValueTells, Entry, Named, Entries, EntryFault, EntryAt, EntryTold, EntryGives}
+use Rattle.repeats.specs.Names.{NameText}
+use Rattle.repeats.specs.Entries.{Entry, Named, Entries, EntryFault, EntryAt, EntryTold, EntryGives}
 
 -- no names yet
 pub entries-begin : (x t q : List ℕ) → value_of q 0 ≡ 0 → Entries x t q 1 []
@@ -95,93 +97,49 @@ module _ {x t q q₁ : List ℕ} {c c₁ e : ℕ} (k : ℕ) {us : List (List ℕ
     more = record { has = λ w h. has-if w (same (text_at x t k) w) refl h; are = λ f l a. are-if f (eqb f e) refl l a }
 
 -- the name at the node k, and what the code finds of it
-pub entry-lost : {x t q q₁ : List ℕ} {c k : ℕ} (b : ℕ) → length q₁ ≡ length q → EntryGives x t q c q₁ 0 k b b
-entry-lost b n = record { room = n; told = λ z. absurd (z refl) }
-
 -- the entry of the name at the node k
-pub walks-text : {x t q q₁ : List ℕ} {c c₁ k e y o : ℕ} → NameText x t k → y ≡ get_or t k 0 → o ≡ get_or t (k + 1) 0 → Walks q c 0 (decode_at x (y + 1) (o - 1)) q₁ c₁ e → Walks q c 0 (text_at x t k) q₁ c₁ e
+pub walks-text : {x t q q₁ : List ℕ} {c k y z : ℕ} {o : Option Place} → NameText x t k → y ≡ get_or t k 0 → z ≡ get_or t (k + 1) 0
+    → Walks q c 0 (decode_at x (y + 1) (z - 1)) q₁ o → Walks q c 0 (text_at x t k) q₁ o
 unfolding text_at
 walks-text d i j w = rw (← i, ← j) w
 
--- the fault
-pub fault-name : {x t : List ℕ} {v : ℕ} → ValueTells x t v → (v ≡ 0 → ⊥) → NameText x t (v * 3)
-fault-name d n = d.told n
-
-module _ {x t : List ℕ} {v k : ℕ} where
-  pub fault-none : (c b : ℕ) → v ≡ 0 → EntryFault x t v k c b c b
-  fault-none c b z = record { none = λ y. (refl, refl); some = λ n m. absurd (n z) }
-
-  module _ (n : v ≡ 0 → ⊥) where
-    pub fault-lost : (c b : ℕ) → EntryFault x t v k c b 0 b
-    fault-lost c b = record { none = λ z. absurd (n z); some = λ m z. absurd (z refl) }
-
-    pub fault-found : (c : ℕ) {b u a p : ℕ} {r : Bool} → r ≡ same (text_at x t (v * 3)) (text_at x t k) → not r ≡ false → p ≡ get_or t k 0 → u ≡ fault 6 p → a ≡ min b u → EntryFault x t v k c b c a
-    fault-found c {b} {r = r} g l q h o =
-        record { none = λ z. absurd (n z); some = λ m z. (refl, sym g ∙ not-false r l, o ∙ (ap (min b) h ∙ ap (λ (a : ℕ). min b (fault 6 a)) q)) }
-
-module _ {x t q q₁ : List ℕ} {c c₁ k e : ℕ} (d : EntryAt x t q c k) (w : Walks q c 0 (text_at x t k) q₁ c₁ e) where
-  pub entry-room : length q₁ ≡ length q
-  entry-room = w.room
-
-  module _ (z : c₁ ≡ 0 → ⊥) where
-    pub entry-low : e * 5 + 5 ≤ length q₁
-    entry-low = omega (arith, (w.told z).inside, (w.told z).few)
-
-    pub entry_value : {v : ℕ} → v ≡ value_of q₁ e → ValueTells x t v
-    entry_value h = record { told = λ n. rw h (named k d.entries (w.told z) (λ u. n (h ∙ u))).name }
-
-    module _ {v f b c₂ r : ℕ} {q₂ : List ℕ} (h : f ≡ value_of q₁ e) (p : Puts q₁ q₂ e v) (m : v * 3 ≡ k) (g : EntryFault x t f k c₁ b c₂ r) where
+module _ {x t q q₁ : List ℕ} {c k : ℕ} {a : Place} (d : EntryAt x t q c k) (w : Walks q c 0 (text_at x t k) q₁ (Some a)) where
+  module _ {v : ℕ} {q₂ : List ℕ} (p : Puts q₁ q₂ a.entry v) where
+    module _ {f b r : ℕ} (h : f ≡ value_of q₁ a.entry) (m : v * 3 ≡ k) (g : EntryFault x t f k b (Some r)) where
       later : v ≡ 0 → ⊥
       later u = omega (arith, d.later)
 
-      told-if : (a : Bool) → eqb f 0 ≡ a → (c₂ ≡ 0 → ⊥) → EntryTold x t q c q₂ c₂ k b r
+      told-if : (i : Bool) → eqb f 0 ≡ i → EntryTold x t q c q₂ a.count k b r
       unfolding least
-      told-if true y o =
+      told-if true y =
           let n = eqb-true f 0 y in
-          let i = g.none n in
+          let i : r ≡ b = grind (arith, g.none n) in
           record {
-            few = rw (i.0, p.room) (w.told z).few;
-            is = λ us s. rw (not-among k s (w.told z) (sym h ∙ n)) i.1;
-            more = λ us s. rw i.0 (more k s (w.told z) p d.name m later);
+            some = omega (arith, w.told.inside);
+            few = rw p.room w.told.few;
+            is = λ us s. rw (not-among k s w.told (sym h ∙ n)) i;
+            more = λ us s. more k s w.told p d.name m later;
           }
-      told-if false y o =
+      told-if false y =
           let n = eqb-false f 0 y in
-          let i = g.some n o in
+          let i = g.some n in
           record {
-            few = rw (i.0, p.room) (w.told z).few;
-            is = λ us s. rw (is_among k s (w.told z) (λ u. n (h ∙ u)) (rw (← h) i.1)) i.2;
-            more = λ us s. rw i.0 (more k s (w.told z) p d.name m later);
+            some = omega (arith, w.told.inside);
+            few = rw p.room w.told.few;
+            is = λ us s. rw (is_among k s w.told (λ u. n (h ∙ u)) (rw (← h) i.0)) i.1;
+            more = λ us s. more k s w.told p d.name m later;
           }
 
-      pub entry-told : EntryGives x t q c q₂ c₂ k b r
-      entry-told = record { room = p.room ∙ w.room; told = λ o. told-if (eqb f 0) refl o }
+      pub entry-told : EntryGives x t q c q₂ k b (Some (record { least = r; count = a.count }))
+      entry-told = record { room = p.room ∙ w.room; told = told-if (eqb f 0) refl }
 
--- names
-module _ {x t : List ℕ} {i : ℕ} (d : NameText x t i) where
-  pub name-first : i < length t
-  name-first = string-first d.string
-
-  pub name-second : i + 1 < length t
-  name-second = string-second d.string
-
-  pub name-some : {e : ℕ} → e ≡ get_or t (i + 1) 0 → 1 ≤ e
-  name-some q = string-some d.string q
-
-  pub name-fits : {p : ℕ} → p ≡ get_or t i 0 → length x * 1 < 2 ^ 63 → Fits w64 (p + 1)
-  name-fits q h = string-fits d.string q h
-
-  pub name-span : {p e : ℕ} → p ≡ get_or t i 0 → e ≡ get_or t (i + 1) 0 → Span x (p + 1) (e - 1)
-  name-span q r = string-span d.string q r
-
-pub name-low : {x t : List ℕ} {i p : ℕ} → NameText x t i → length x ≤ 65535 → p ≡ get_or t i 0 → p ≤ 65535
-name-low d s q = string-low d.string s q
-
-module _ {x t : List ℕ} {i j p e p' e' : ℕ} {r : Bool} (a : NameText x t i) (b : NameText x t j) where
-  pub same-told : p ≡ get_or t i 0 → e ≡ get_or t (i + 1) 0 → p' ≡ get_or t j 0 → e' ≡ get_or t (j + 1) 0
-      → r ≡ same (decode_at x (p + 1) (e - 1)) (decode_at x (p' + 1) (e' - 1)) → r ≡ same (text_at x t i) (text_at x t j)
+module _ {x t : List ℕ} {i j p e p' e' : ℕ} (a : NameText x t i) (b : NameText x t j) (q : p ≡ get_or t i 0) (r : e ≡ get_or t (i + 1) 0) (q' : p' ≡ get_or t j 0) (r' : e' ≡ get_or t (j + 1) 0) where
+  pub same-told : {s : Bool} → s ≡ same (decode_at x (p + 1) (e - 1)) (decode_at x (p' + 1) (e' - 1)) → s ≡ same (text_at x t i) (text_at x t j)
   unfolding text_at
-  same-told q r q' r' s = rw (← q, ← r, ← q', ← r') s
+  same-told s = rw (← q, ← r, ← q', ← r') s
 
-pub ruleset texts = (rules, name-first, name-second, name-some, name-fits, name-span, name-low, same-told, walks-text, fault-name, fault-none, fault-lost, fault-found)
+  -- names that begin apart are not the same
+  pub apart-told : {s : Bool} → s ≡ begin_apart x (p + 1) (e - 1) (p' + 1) (e' - 1) → s ≡ true → not s ≡ same (text_at x t i) (text_at x t j)
+  apart-told s h = rw h (sym (apart-differ (string-span a.string q r) (string-span b.string q' r') (sym s ∙ h)) ∙ same-told refl)
 
-pub ruleset entries = (rules, entry-lost, entry-room, entry-low, entry_value, entry-told)
+pub ruleset texts = (rules, same-told, apart-told, walks-text)

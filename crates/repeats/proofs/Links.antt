@@ -1,30 +1,24 @@
 -- Chains of names: following one, and one name more.
-use Prim.Native.Nat.{ℕ, ◌+◌, ◌-◌, ◌*◌, ◌/◌, ◌^◌, ◌≤◌, ◌<◌, min}
+use Prim.Native.Nat.{ℕ, ◌+◌, ◌-◌, ◌/◌, ◌≤◌, ◌<◌, min}
 use mathlib.Core.Path.{◌≡◌, refl, sym, ap, ◌∙◌}
-use mathlib.Core.Bool.{Bool, true, false, cond, not, ◌||◌}
+use mathlib.Core.Bool.{Bool, true, false, cond, ◌||◌}
 use mathlib.Core.List.{List, [], ◌∷◌, map}
 use native.Mathlib.Omega.{arith}
 use lib.ListN.{length, get_or, set, length-set}
 use lib.Seq.{get_or-set_same, get_or-set_other}
 use lib.Dec.{eqb}
-use mir.Syntax.{w64}
-use mir.Val.{Fits}
 use borrow.Author.Rules.{rules}
-use borrow.Author.Tests.{eqb-true, eqb-false, not-true, not-false}
+use borrow.Author.Tests.{eqb-true, eqb-false}
+use Rattle.std.specs.Prelude.{Option, Some, None, IfSome}
 use Rattle.utf8.specs.Utf8.{same}
-use Rattle.utf8.specs.Laws.{clash}
-use Rattle.strings.specs.Spans.{Span, decode_at, begin_apart}
-use Rattle.strings.specs.Laws.{apart-differ}
+use Rattle.strings.specs.Spans.{decode_at}
 use Rattle.nodes.specs.Faults.{fault, least}
 use Rattle.everywhere.specs.Everywhere.{among}
-use Rattle.nodes.specs.Laws.{StringAt}
 use Rattle.everywhere.specs.Says.{text_at}
 use Rattle.everywhere.specs.Laws.{other_text}
 use Rattle.everywhere.specs.Chains.{chain_of}
-use Rattle.repeats.specs.Chains.{kept, Link, Chained, end, link, Chains, ChainNode, InChain, Searched, ChainAt, ChainGives}
-use Rattle.repeats.specs.declared.Search.{Search}
-use Rattle.repeats.specs.declared.Search.TheVariants.{Ended, Long}
-use Rattle.nodes.specs.Reads.{string-first, string-second, string-some, string-fits, string-span, string-low}
+use Rattle.repeats.specs.Chains.{kept, Link, Chained, end, link, Chains, ChainNode, Searched, ChainAt, ChainGives}
+use Rattle.repeats.specs.Names.{NameText}
 
 -- what is left of a chain with the texts us, where the code has come to the node e
 record Rest (x t ls : List ℕ) (k e : ℕ) (us : List (List ℕ)) : Type 0 where
@@ -60,18 +54,6 @@ finished {x} {t} {ls} {k} {e} {us} r z = go r.chain r.holds
     go (end _) h = h
     go (link l c) h = absurd (omega (arith, l.back))
 
--- what a search tells
-ended-inside : Bool → Search → Bool
-ended-inside d (Ended b) = b
-ended-inside d Long = d
-
-search-told : {x t ls : List ℕ} {head k : ℕ} {b : Bool} → InChain x t ls head k b → Searched x t ls head k (Ended b)
-unfolding ended-inside
-search-told {b = b} h = record { ended = λ r q. let z : b ≡ r = ap (ended-inside b) q in rw (← z) h }
-
-pub follow-long : {x t ls : List ℕ} {head k : ℕ} → Searched x t ls head k Long
-follow-long = record { ended = λ r q. clash cc }
-
 module _ {x t ls : List ℕ} {head k : ℕ} where
   pub follow-begin : ChainNode x t ls head k → Follows x t ls head k head
   follow-begin d = record { node = d; left = λ us c. record { texts = us; chain = c; holds = refl } }
@@ -81,47 +63,21 @@ module _ {x t ls : List ℕ} {head k : ℕ} where
       here : Link x t ls e
       here = (turn (c.left c.node.texts c.node.chain) n).here
 
-      pub follow-first : e < length t
-      follow-first = string-first here.string
-
-      pub follow-second : e + 1 < length t
-      follow-second = string-second here.string
-
-      pub follow-some : {q : ℕ} → q ≡ get_or t (e + 1) 0 → 1 ≤ q
-      follow-some q = string-some here.string q
-
-      pub follow-fits : {p : ℕ} → p ≡ get_or t e 0 → length x * 1 < 2 ^ 63 → Fits w64 (p + 1)
-      follow-fits q h = string-fits here.string q h
-
-      pub follow-span : {p q : ℕ} → p ≡ get_or t e 0 → q ≡ get_or t (e + 1) 0 → Span x (p + 1) (q - 1)
-      follow-span q r = string-span here.string q r
+      pub follow-name : NameText x t e
+      follow-name = here.name
 
       pub follow-room : e / 3 < length ls
       follow-room = here.room
 
-      pub follow-less : {m : ℕ} → m ≡ get_or ls (e / 3) 0 → m < e
-      follow-less q = rw q here.back
-
-      module _ {p q p' q' : ℕ} {b : Bool} (w : p ≡ get_or t e 0) (y : q ≡ get_or t (e + 1) 0) (w' : p' ≡ get_or t k 0) (y' : q' ≡ get_or t (k + 1) 0)
-          (s : b ≡ same (decode_at x (p + 1) (q - 1)) (decode_at x (p' + 1) (q' - 1))) where
-        tested : b ≡ same (text_at x t e) (text_at x t k)
-        unfolding text_at
-        tested = rw (← w, ← y, ← w', ← y') s
-
-        pub follow-found : b ≡ true → Searched x t ls head k (Ended true)
-        follow-found h = search-told (record { is = λ us z. let u = turn (c.left us z) n in sym (u.holds ∙ rw (← tested, h)) })
+      module _ {b : Bool} (s : b ≡ same (text_at x t e) (text_at x t k)) where
+        pub follow-found : b ≡ true → Searched x t ls head k (Some true)
+        follow-found h = record { ended = record { is = λ us z. let u = turn (c.left us z) n in sym (u.holds ∙ rw (← s, h)) } }
 
         pub follow-again : {m : ℕ} → b ≡ false → m ≡ get_or ls (e / 3) 0 → Follows x t ls head k m
-        follow-again h o = record { node = c.node; left = λ us z. let u = turn (c.left us z) n in record { texts = u.texts; chain = rw o u.chain; holds = u.holds ∙ rw (← tested, h) } }
+        follow-again h o = record { node = c.node; left = λ us z. let u = turn (c.left us z) n in record { texts = u.texts; chain = rw o u.chain; holds = u.holds ∙ rw (← s, h) } }
 
-      -- names that begin apart are not the same
-      pub follow-apart : {p q p' q' m : ℕ} {b : Bool} → p ≡ get_or t e 0 → q ≡ get_or t (e + 1) 0 → p' ≡ get_or t k 0 → q' ≡ get_or t (k + 1) 0
-          → b ≡ begin_apart x (p + 1) (q - 1) (p' + 1) (q' - 1) → not b ≡ false → m ≡ get_or ls (e / 3) 0 → Follows x t ls head k m
-      follow-apart {b = b} w y w' y' s h o =
-          follow-again w y w' y' refl (apart-differ (string-span here.string w y) (string-span c.node.string w' y') (sym s ∙ not-false b h)) o
-
-    pub follow-done : e ≡ 0 → Searched x t ls head k (Ended false)
-    follow-done z = search-told (record { is = λ us h. sym (finished (c.left us h) z) })
+    pub follow-done : e ≡ 0 → Searched x t ls head k (Some false)
+    follow-done z = record { ended = record { is = λ us h. sym (finished (c.left us h) z) } }
 
 kept_if : (c : ℕ) (w u : List ℕ) (us : List (List ℕ)) (b : Bool) → eqb (chain_of u) c ≡ b → c ≡ chain_of w → among (kept c us) w ≡ among us w
     → among (cond b (u ∷ kept c us) (kept c us)) w ≡ (same u w || among us w)
@@ -139,7 +95,7 @@ chained-set : (k v : ℕ) {x t ls : List ℕ} {e : ℕ} {us : List (List ℕ)} �
 chained-set k v (end z) h = end z
 chained-set k v {ls = ls} {e = e} (link {us = us} l c) h =
     let z : get_or (set ls (k / 3) v) (e / 3) 0 ≡ get_or ls (e / 3) 0 = get_or-set_other ls (k / 3) (e / 3) v 0 (λ q. omega arith) in
-    link {e = e} {us = us} (record { room = rw (length-set ls (k / 3) v) l.room; back = rw z l.back; raw = l.raw; string = l.string }) (rw z (chained-set k v c (omega (arith, l.back))))
+    link {e = e} {us = us} (record { room = rw (length-set ls (k / 3) v) l.room; back = rw z l.back; name = l.name }) (rw z (chained-set k v c (omega (arith, l.back))))
 
 -- no names yet
 pub chains-begin : (x t ls hs : List ℕ) (k : ℕ) → ((c : ℕ) → get_or hs c 0 ≡ 0) → 3 ≤ k → Chains x t ls hs k []
@@ -147,7 +103,7 @@ unfolding kept
 chains-begin x t ls hs k z h = record { chain = λ c l. end (z c); below = λ c l. omega (arith, z c) }
 
 -- one name more, at the node k, which goes to the chain c
-module _ {x t ls hs : List ℕ} {k c : ℕ} {us : List (List ℕ)} (s : Chains x t ls hs k us) {raw : List ℕ} (d : StringAt x t k raw) (i : k / 3 < length ls)
+module _ {x t ls hs : List ℕ} {k c : ℕ} {us : List (List ℕ)} (s : Chains x t ls hs k us) (d : NameText x t k) (i : k / 3 < length ls)
     (q : c ≡ chain_of (text_at x t k)) (l : c < 4096) (m : length hs ≡ 4096) where
   head-same : (a : ℕ) → c ≡ a → get_or (set hs c k) a 0 ≡ k
   head-same a z = rw (← z) (get_or-set_same hs c k 0 (omega arith))
@@ -155,12 +111,13 @@ module _ {x t ls hs : List ℕ} {k c : ℕ} {us : List (List ℕ)} (s : Chains x
   head-other : (a : ℕ) → (c ≡ a → ⊥) → get_or (set hs c k) a 0 ≡ get_or hs a 0
   head-other a f = get_or-set_other hs c a k 0 (λ z. f (sym z))
 
-  chains-if : (a : ℕ) (b : Bool) → eqb (chain_of (text_at x t k)) a ≡ b → a < 4096 → Chained x t (set ls (k / 3) (get_or hs c 0)) (get_or (set hs c k) a 0) (cond b (text_at x t k ∷ kept a us) (kept a us))
+  chains-if : (a : ℕ) (b : Bool) → eqb (chain_of (text_at x t k)) a ≡ b → a < 4096
+      → Chained x t (set ls (k / 3) (get_or hs c 0)) (get_or (set hs c k) a 0) (cond b (text_at x t k ∷ kept a us) (kept a us))
   chains-if a true e f =
       let z : c ≡ a = q ∙ eqb-true _ _ e in
       let w : get_or (set ls (k / 3) (get_or hs c 0)) (k / 3) 0 ≡ get_or hs c 0 = get_or-set_same ls (k / 3) (get_or hs c 0) 0 i in
       rw (head-same a z, ← z)
-      (link {e = k} {us = kept c us} (record { room = rw (length-set ls (k / 3) (get_or hs c 0)) i; back = rw w (omega (arith, s.below c l)); raw = raw; string = d })
+      (link {e = k} {us = kept c us} (record { room = rw (length-set ls (k / 3) (get_or hs c 0)) i; back = rw w (omega (arith, s.below c l)); name = d })
       (rw w (chained-set k (get_or hs c 0) (s.chain c l) (s.below c l))))
   chains-if a false e f = rw (head-other a (λ z. eqb-false _ _ e (sym q ∙ z))) (chained-set k (get_or hs c 0) (s.chain a f) (s.below a f))
 
@@ -176,58 +133,40 @@ module _ {x t ls hs : List ℕ} {k c : ℕ} {us : List (List ℕ)} (s : Chains x
 module _ {x t ls hs : List ℕ} {k : ℕ} (d : ChainAt x t ls hs k) where
   pub name-node : (c h : ℕ) → h ≡ get_or hs c 0 → c < 4096 → ChainNode x t (set ls (k / 3) (get_or hs c 0)) h k
   name-node c h q l =
-      record { texts = kept c d.texts; chain = rw q (chained-set k (get_or hs c 0) (d.chains.chain c l) (d.chains.below c l)); raw = d.raw; string = d.string }
+      record { texts = kept c d.texts; chain = rw q (chained-set k (get_or hs c 0) (d.chains.chain c l) (d.chains.below c l)); name = d.name }
 
   module _ {p q c : ℕ} (y : p ≡ get_or t k 0) (z : q ≡ get_or t (k + 1) 0) (w : c ≡ chain_of (decode_at x (p + 1) (q - 1))) (l : c < 4096) where
     goes : c ≡ chain_of (text_at x t k)
     unfolding text_at
     goes = rw (← y, ← z) w
 
-    gives : {b r : ℕ} → ((r ≡ 0 → ⊥) → (us : List (List ℕ)) → Chains x t ls hs k us → r ≡ least b (map (fault 6) (cond (among us (text_at x t k)) (get_or t k 0 ∷ []) [])))
-        → ChainGives x t ls hs (set ls (k / 3) (get_or hs c 0)) (set hs c k) k b r
+    gives : {b : ℕ} {o : Option ℕ} → IfSome o (λ r. (us : List (List ℕ)) → Chains x t ls hs k us → r ≡ least b (map (fault 6) (cond (among us (text_at x t k)) (get_or t k 0 ∷ []) [])))
+        → ChainGives x t ls hs (set ls (k / 3) (get_or hs c 0)) (set hs c k) k b o
     gives i =
         record {
           is = i;
-          more = λ us j s e. chains-more s d.string d.inside goes l d.heads j e;
+          more = λ us j s e. chains-more s d.name d.inside goes l d.heads j e;
           value = d.value;
           links = length-set ls (k / 3) (get_or hs c 0);
           heads = length-set hs c k ∙ d.heads;
         }
 
     -- the chain is too long
-    pub chain-long : (b : ℕ) → ChainGives x t ls hs (set ls (k / 3) (get_or hs c 0)) (set hs c k) k b 0
-    chain-long b = gives (λ n. absurd (n refl))
+    pub chain-long : (b : ℕ) → ChainGives x t ls hs (set ls (k / 3) (get_or hs c 0)) (set hs c k) k b None
+    chain-long b = gives tt
 
-    module _ {h : ℕ} {f : Bool} (o : h ≡ get_or hs c 0) (e : Search) (g : Searched x t (set ls (k / 3) (get_or hs c 0)) h k e) (v : e ≡ Ended f) where
+    module _ {h : ℕ} {f : Bool} (o : h ≡ get_or hs c 0) (g : Searched x t (set ls (k / 3) (get_or hs c 0)) h k (Some f)) where
       found : (us : List (List ℕ)) → Chains x t ls hs k us → among us (text_at x t k) ≡ f
-      found us s = sym ((g.ended f v).is (kept c us) (rw o (chained-set k (get_or hs c 0) (s.chain c l) (s.below c l))) ∙ kept-among c (text_at x t k) goes us)
+      found us s = sym (g.ended.is (kept c us) (rw o (chained-set k (get_or hs c 0) (s.chain c l) (s.below c l))) ∙ kept-among c (text_at x t k) goes us)
 
-      pub chain-none : (b : ℕ) → not f ≡ true → ChainGives x t ls hs (set ls (k / 3) (get_or hs c 0)) (set hs c k) k b b
+      pub chain-none : (b : ℕ) → f ≡ false → ChainGives x t ls hs (set ls (k / 3) (get_or hs c 0)) (set hs c k) k b (Some b)
       unfolding least
-      chain-none b n = gives (λ m us s. rw (found us s, not-true f n))
+      chain-none b n = gives (λ us s. rw (found us s, n))
 
-      pub chain-found : {b u a : ℕ} → not f ≡ false → u ≡ fault 6 p → a ≡ min b u → ChainGives x t ls hs (set ls (k / 3) (get_or hs c 0)) (set hs c k) k b a
+      pub chain-found : {b u a : ℕ} → f ≡ true → u ≡ fault 6 p → a ≡ min b u → ChainGives x t ls hs (set ls (k / 3) (get_or hs c 0)) (set hs c k) k b (Some a)
       unfolding least
-      chain-found {b} {u} {a} n i j = gives (λ m us s. rw (found us s, not-false f n) (j ∙ (ap (min b) i ∙ ap (λ (a : ℕ). min b (fault 6 a)) y)))
+      chain-found {b} {u} {a} n i j = gives (λ us s. rw (found us s, n) (j ∙ (ap (min b) i ∙ ap (λ (a : ℕ). min b (fault 6 a)) y)))
 
-pub ruleset follows = (
-  rules,
-  string-first,
-  string-second,
-  string-some,
-  string-fits,
-  string-span,
-  follow-begin,
-  follow-first,
-  follow-second,
-  follow-some,
-  follow-fits,
-  follow-span,
-  follow-room,
-  follow-less,
-  follow-found,
-  follow-done,
-  follow-long,
-)
+pub ruleset follows = (rules, follow-begin, follow-name, follow-room, follow-found, follow-again, follow-done)
 
-pub ruleset links = (rules, string-first, string-second, string-some, string-fits, string-span, string-low, name-node, chain-long, chain-none, chain-found)
+pub ruleset links = (rules, name-node)

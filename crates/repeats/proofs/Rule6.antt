@@ -1,38 +1,37 @@
 -- Rule 6 at one name and at one object.
-use Prim.Native.Nat.{ℕ, ◌+◌, ◌-◌, ◌*◌, ◌^◌, ◌≤◌, ◌<◌, min}
+use Prim.Native.Nat.{ℕ, ◌+◌, ◌*◌, ◌≤◌, ◌<◌, min}
 use mathlib.Core.Path.{◌≡◌, refl, sym, ap, ◌∙◌}
-use mathlib.Core.Bool.{Bool, true, false, cond, not, ◌||◌, or-false, or-true}
+use mathlib.Core.Bool.{Bool, true, false, cond, ◌||◌, or-false, or-true}
 use mathlib.Core.List.{List, [], ◌∷◌, map, map-append}
 use native.Mathlib.Nat.{add-zero}
 use native.Mathlib.Omega.{arith}
 use lib.ListN.{length, get_or, replicate}
 use borrow.Author.Rules.{rules}
-use borrow.Author.Tests.{eq-eqb, ne_eqb, not-true, not-false}
-use mir.Syntax.{w64}
-use mir.Val.{Fits}
+use Rattle.std.proofs.Common.{add_assoc}
+use borrow.Author.Tests.{eq-eqb, ne_eqb}
+use Rattle.std.specs.Prelude.{Option, Some, None}
 use Rattle.utf8.specs.Utf8.{same}
 use Rattle.strings.specs.Strings.{decode}
-use Rattle.strings.specs.Spans.{decode_at, begin_apart}
-use Rattle.strings.specs.Laws.{apart-differ}
 use Rattle.json_text.specs.Tree.{Json, Members, member, with, Name}
 use Rattle.json_text.specs.Tree as tree
-use Rattle.json_text.specs.Table.{widths, Quoted, Sub, Fields, last, field}
-use Rattle.json_text.specs.Laws.{Tree, widths-with, fields-with, MembersLeft, MemberPast, member-past, member-over, members-ended}
+use Rattle.json_text.specs.Table.{size, widths, Quoted, Sub, Fields, last, field}
+use Rattle.json_text.specs.Laws.{Tree, words, size-pos, widths-with, fields-with, MembersLeft, MemberPast, member-past, member-over, members-ended}
 use Rattle.nodes.specs.Access.{is_object_value}
 use Rattle.nodes.specs.Faults.{fault, least}
 use Rattle.everywhere.specs.Everywhere.{among, repeated}
 use Rattle.nodes.specs.Laws.{quoted-at, kinds, fields_of, object-begin, no_fields, least-++, fresh-zero, fresh-length}
 use Rattle.everywhere.specs.Parts.{Part, value}
 use Rattle.everywhere.specs.Says.{Stands, of-value, of-name, AnyPart, PartGives, text_at}
-use Rattle.repeats.specs.Names.{own6, Sure, PartTells, earlier, NameNode, Repeats, RepeatGives}
+use Rattle.repeats.specs.Names.{own6, PartTells, earlier, NameText, NameNode, Repeats, RepeatGives}
 use Rattle.repeats.specs.Chains.{Chains, ChainAt, ChainGives, LongObject}
-use Rattle.repeats.specs.Entries.{TrieRoom, Entries, EntryAt, EntryGives, TrieObject, FreshObject}
-use Rattle.trie.specs.Trie.{Emptied}
+use Rattle.repeats.specs.Entries.{Entries, EntryAt, EntryGives, FreshObject}
+use Rattle.repeats.specs.declared.Turn.{Turn}
 use Rattle.repeats.proofs.Links.{chains-begin}
 use Rattle.repeats.proofs.Entries.{entries-begin}
-use Rattle.repeats.proofs.Passes.{sure-before, Lent, lent-begin, lent-on}
-use Rattle.nodes.specs.Reads.{string-first, string-second, string-some, string-fits, string-span, string-low, Walk, walk_of, walk-on, walk_first, walk-second, walk-room, walk-onward, walk-some, walk-fits, walk-span, walk-less}
-use Rattle.everywhere.proofs.Any.{any-first, any-third, any-onward, any-inside}
+use Rattle.repeats.proofs.Passes.{Lent, lent-begin, lent-on}
+use Rattle.nodes.specs.Siblings.{Chain, here, onward, CanStep, Names, StepsPast}
+use Rattle.nodes.specs.declared.Siblings.{Siblings}
+use Rattle.everywhere.proofs.Any.{any-third}
 
 -- is a text among the names of some members, in their order?
 unfoldable named : Members → List ℕ → Bool
@@ -60,81 +59,103 @@ unfolding earlier with
 earlier-with us tree.empty k v = refl
 earlier-with us (member j u ms) k v = earlier-with (decode j.raw ∷ us) ms k v
 
--- Comparing the name at the node k with those before it: it is among them if it is among those from j on
-pub record Compares (x t : List ℕ) (first k j : ℕ) : Type 0 where
+-- The iterator s gives names of members of the table t
+record Over (t : List ℕ) (s : Siblings) : Type 0 where
+  table : s.table.now ≡ t
+  lead : s.lead ≡ 3
+
+-- past one name, which stands at the node k
+over-past : {x t : List ℕ} {s u : Siblings} {k : ℕ} {P : Members → Type 0} → StepsPast s k u → MembersLeft x t s.at s.end P → MemberPast x t k s.end P
+over-past g l = rw g.node (member-past l g.more)
+
+module _ {t : List ℕ} {s u : Siblings} {k : ℕ} (o : Over t s) (g : StepsPast s k u) where
+  over-at : u.at ≡ get_or t (k + 3 + 2) 0
+  over-at = let n : s.at + s.lead + 2 ≡ k + 3 + 2 = omega (arith, o.lead, g.node) in rw (g.at, o.table, n) refl
+
+  over-on : {x : List ℕ} {P Q : Members → Type 0} (y : MemberPast x t k s.end P) → Q y.others → MembersLeft x t u.at u.end Q
+  over-on y q = rw (over-at, g.end) (member-over y q)
+
+  over-again : Over t u
+  over-again = record { table = g.table ∙ o.table; lead = g.lead ∙ o.lead }
+
+-- Comparing the name at the node k with those before it: it is among them if it is among those that s gives
+pub record Compares (x t : List ℕ) (first k : ℕ) (s : Siblings) : Type 0 where
   pub node : NameNode x t first k
-  pub walk : Walk x t k j
-  left : (ms : Members) → Fields x t first ms → first + widths ms ≡ k → MembersLeft x t j k (λ os. among (earlier [] ms) (text_at x t k) ≡ named os (text_at x t k))
+  over : Over t s
+  left : (ms : Members) → Fields x t first ms → first + widths ms ≡ k → MembersLeft x t s.at s.end (λ os. among (earlier [] ms) (text_at x t k) ≡ named os (text_at x t k))
+
+-- the words of members lead from name to name
+names-chain : {x t : List ℕ} {j k : ℕ} {ms : Members} → Fields x t j ms → j + widths ms ≡ k → Chain t 3 k j
+unfolding widths
+names-chain {j = j} {k = k} last e = let z : k ≡ j = omega (arith, e) in rw z here
+names-chain {t = t} {j = j} (field {v = v} {ms = ms} q s fs) e =
+    let w = words s in
+    let z : get_or t (j + 3 + 2) 0 ≡ j + (3 + size v) = w.next ∙ add_assoc j 3 (size v) in
+    onward w.room (rw z (omega (arith, size-pos v))) (rw z (names-chain fs (omega (arith, e))))
+
+-- the iterator r gives the names before one
+module _ {x : List ℕ} {r s : Siblings} (d : NameNode x r.table.now r.at r.end) (l : r.lead ≡ 3) (q : s ≡ r) where
+  pub compare-walk : CanStep s
+  compare-walk = rw q (record { chain = rw l (names-chain d.stand d.ends) })
+
+  pub compare-begin : Compares x r.table.now r.at r.end s
+  compare-begin = rw q (record {
+    node = d;
+    over = record { table = refl; lead = l };
+    left = λ ms f z. record { members = ms; stand = f; ends = z; holds = among-named ms (text_at x r.table.now r.end) };
+  })
 
 module _ {x t : List ℕ} {first k : ℕ} where
-  -- the first of the names has its node in the table and its place in the text too
-  pub first-first : NameNode x t first k → first < length t
-  first-first d = omega (arith, d.string.room, d.ends)
+  module _ {s : Siblings} (c : Compares x t first k s) where
+    module _ {j : ℕ} {u : Siblings} (g : StepsPast s j u) where
+      pub compare-name : NameText x t j
+      compare-name = let y = over-past g (c.left c.node.before c.node.stand c.node.ends) in record { raw = y.key.raw; string = quoted-at y.quoted }
 
-  pub first-low : {p : ℕ} → NameNode x t first k → p ≡ get_or t first 0 → p ≤ 65535
-  unfolding widths
-  first-low {p} d q = go d.stand d.ends
-    where
-      go : {ms : Members} → Fields x t first ms → first + widths ms ≡ k → p ≤ 65535
-      go last e = let z : first ≡ k = omega arith in string-low d.string d.short (q ∙ ap (λ (m : ℕ). get_or t m 0) z)
-      go (field f s fs) e = omega (arith, f.words.start, f.words.some, f.words.inside, d.short)
-
-  pub compare-begin : NameNode x t first k → Compares x t first k first
-  compare-begin d =
-      record {
-        node = d;
-        walk = record { members = d.before; stand = d.stand; ends = d.ends };
-        left = λ ms f e. record { members = ms; stand = f; ends = e; holds = among-named ms (text_at x t k) };
-      }
-
-  module _ {j : ℕ} (c : Compares x t first k j) where
-    module _ {p e p' e' : ℕ} (l : j < k) (q : p ≡ get_or t j 0) (r : e ≡ get_or t (j + 1) 0) (q' : p' ≡ get_or t k 0) (r' : e' ≡ get_or t (k + 1) 0) where
-      module _ {b : Bool} (s : b ≡ same (decode_at x (p + 1) (e - 1)) (decode_at x (p' + 1) (e' - 1))) where
-        tested : {P : Members → Type 0} (u : MemberPast x t j k P) → same (decode u.key.raw) (text_at x t k) ≡ b
+      module _ {b : Bool} (h : b ≡ same (text_at x t j) (text_at x t k)) where
+        tested : {n : ℕ} {P : Members → Type 0} (y : MemberPast x t j n P) → same (decode y.key.raw) (text_at x t k) ≡ b
         unfolding text_at
-        tested u = rw ((quoted-at u.quoted).text, ← q, ← r, ← q', ← r') (sym s)
+        tested y = rw (quoted-at y.quoted).text (sym h)
 
         pub compare-found : b ≡ true → Repeats x t first k true
         unfolding named
-        compare-found h = record { is = λ ms f z. let u = member-past (c.left ms f z) l in sym (u.holds ∙ rw (tested u, h)) }
+        compare-found e = record { is = λ ms f z. let y = over-past g (c.left ms f z) in sym (y.holds ∙ rw (tested y, e)) }
 
-        pub compare-again : {m : ℕ} → b ≡ false → m ≡ get_or t (j + 3 + 2) 0 → Compares x t first k m
+        pub compare-again : b ≡ false → Compares x t first k u
         unfolding named
-        compare-again h o = record { node = c.node; walk = walk-on c.walk l o; left = λ ms f z. let u = member-past (c.left ms f z) l in rw o (member-over u (u.holds ∙ rw (tested u, h))) }
+        compare-again e = record {
+          node = c.node;
+          over = over-again c.over g;
+          left = λ ms f z. let y = over-past g (c.left ms f z) in over-on c.over g y (y.holds ∙ rw (tested y, e));
+        }
 
-      -- names that begin apart are not the same
-      pub compare-apart : {b : Bool} {m : ℕ} → b ≡ begin_apart x (p + 1) (e - 1) (p' + 1) (e' - 1) → not b ≡ false → m ≡ get_or t (j + 3 + 2) 0 → Compares x t first k m
-      compare-apart {b} s h o = compare-again refl (apart-differ (walk-span c.walk l q r) (string-span c.node.string q' r') (sym s ∙ not-false b h)) o
-
-    pub compare-done : k ≤ j → Repeats x t first k false
+    pub compare-done : s.end ≤ s.at → Repeats x t first k false
     unfolding named
     compare-done h = record { is = λ ms f z. sym (members-ended (c.left ms f z) h) }
 
   -- the fault of a name that repeats another
-  pub repeat-none : {r : Bool} (b : ℕ) → Repeats x t first k r → not r ≡ true → RepeatGives x t first k b b
+  pub repeat-none : {r : Bool} (b : ℕ) → Repeats x t first k r → r ≡ false → RepeatGives x t first k b b
   unfolding least
-  repeat-none {r} b g e = record { is = λ ms f z. rw (sym (g.is ms f z) ∙ not-true r e) }
+  repeat-none {r} b g e = record { is = λ ms f z. rw (sym (g.is ms f z) ∙ e) }
 
-  pub repeat-found : {r : Bool} {b p u w : ℕ} → Repeats x t first k r → not r ≡ false → p ≡ get_or t k 0 → u ≡ fault 6 p → w ≡ min b u → RepeatGives x t first k b w
+  pub repeat-found : {r : Bool} {b p u w : ℕ} → Repeats x t first k r → r ≡ true → p ≡ get_or t k 0 → u ≡ fault 6 p → w ≡ min b u → RepeatGives x t first k b w
   unfolding least
-  repeat-found {r} {b} {p} {u} {w} g e q y z = record { is = λ ms f o. rw (sym (g.is ms f o) ∙ not-false r e) (z ∙ (ap (min b) y ∙ ap (λ (m : ℕ). min b (fault 6 m)) q)) }
+  repeat-found {r} {b} {p} {u} {w} g e q y z = record { is = λ ms f o. rw (sym (g.is ms f o) ∙ e) (z ∙ (ap (min b) y ∙ ap (λ (m : ℕ). min b (fault 6 m)) q)) }
 
--- The names of an object: those of the members `before` come before k, Q holds of their texts, and the faults of `fields` are those of the members that are left,
--- if P holds of the least so far
-record Earlier (P : ℕ → Type 0) (x t : List ℕ) (first k b₀ b : ℕ) (Q : List (List ℕ) → Type 0) (fields left : Members) : Type 0 where
+-- The names of an object: those of the members `before` come before k, Q holds of their texts, and the faults of `fields` are those of the members that are left
+record Earlier (x t : List ℕ) (first k b₀ b : ℕ) (Q : List (List ℕ) → Type 0) (fields left : Members) : Type 0 where
   before : Members
   stand : Fields x t first before
   ends : first + widths before ≡ k
   also : Q (earlier [] before)
-  holds : P b → least b (map (fault 6) (repeated (earlier [] before) left)) ≡ least b₀ (map (fault 6) (repeated [] fields))
+  holds : least b (map (fault 6) (repeated (earlier [] before) left)) ≡ least b₀ (map (fault 6) (repeated [] fields))
 
--- what the loop over the names of the object at i knows where it has come to k, and the least so far is b
-pub record Sweeps (P : ℕ → Type 0) (x t : List ℕ) (i first n b₀ k b : ℕ) (Q : List (List ℕ) → Type 0) : Type 0 where
+-- what the loop over the names of the object at i knows where s gives those that are left, and the least so far is b
+pub record Sweeps (x t : List ℕ) (i b₀ : ℕ) (s : Siblings) (b : ℕ) (Q : List (List ℕ) → Type 0) : Type 0 where
   pub some : AnyPart x t i
   pub brace : get_or x (get_or t i 0) 0 ≡ 123
-  pub ends : n ≡ get_or t (i + 2) 0
-  pub walk : Walk x t n k
-  left : (v : Json) → Sub x t i v → MembersLeft x t k n (Earlier P x t first k b₀ b Q (fields_of v))
+  over : Over t s
+  ends : s.end ≡ get_or t (i + 2) 0
+  left : (v : Json) → Sub x t i v → MembersLeft x t s.at s.end (Earlier x t (i + 3) s.at b₀ b Q (fields_of v))
 
 -- what starts with a brace is an object, and no name
 module _ {x t : List ℕ} {i : ℕ} where
@@ -162,8 +183,13 @@ repeated-none : {x t : List ℕ} {i p : ℕ} (b : ℕ) → p ≡ get_or t i 0 �
 unfolding least
 repeated-none b e n = record { is = λ d s. rw (other-part s (λ h. n (rw e h))) }
 
-pub repeated-told : {x t : List ℕ} {i p : ℕ} (others b : ℕ) → p ≡ get_or t i 0 → (get_or x p 0 ≡ 123 → ⊥) → PartTells others 6 own6 x t i b b
-repeated-told others b e n = record { told = λ z. repeated-none b e n }
+pub repeated-told : {x t : List ℕ} {i p : ℕ} (others b : ℕ) → p ≡ get_or t i 0 → (get_or x p 0 ≡ 123 → ⊥) → PartTells others 6 own6 x t i b (Some b)
+repeated-told others b e n = record { told = repeated-none b e n }
+
+-- a way that is left to another may be left to it where there are some
+tells-other : {x t : List ℕ} {i b others : ℕ} {o : Option ℕ} → PartTells 1 6 own6 x t i b o → (others ≡ 0 → ⊥) → PartTells others 6 own6 x t i b o
+tells-other {o = Some r} p n = record { told = p.told }
+tells-other {o = None} p n = record { told = n }
 
 -- r is the least of b and of the fault of the name at the node k, if it is among the texts us
 abbrev Least : List ℕ → List ℕ → ℕ → ℕ → ℕ → List (List ℕ) → Type 0
@@ -171,11 +197,11 @@ Least x t k b r us = r ≡ least b (map (fault 6) (cond (among us (text_at x t k
 
 -- the faults from one member on
 repeated-step :
-    {P : ℕ → Type 0} {x t : List ℕ} {first k n b₀ b r : ℕ} {Q R : List (List ℕ) → Type 0} {fields : Members} (u : MemberPast x t k n (Earlier P x t first k b₀ b Q fields))
-    → (P r → P b × Least x t k b r (earlier [] u.holds.before)) → R (text_at x t k ∷ earlier [] u.holds.before)
-    → Earlier P x t first (get_or t (k + 3 + 2) 0) b₀ r R fields u.others
+    {x t : List ℕ} {first k n b₀ b r : ℕ} {Q R : List (List ℕ) → Type 0} {fields : Members} (u : MemberPast x t k n (Earlier x t first k b₀ b Q fields))
+    → Least x t k b r (earlier [] u.holds.before) → R (text_at x t k ∷ earlier [] u.holds.before)
+    → Earlier x t first (get_or t (k + 3 + 2) 0) b₀ r R fields u.others
 unfolding repeated text_at
-repeated-step {P} {x} {t} {first} {k} {n} {b₀} {b} {r} {Q} {R} {fields} u g q =
+repeated-step {x} {t} {first} {k} {n} {b₀} {b} {r} {Q} {R} {fields} u g q =
     let o = u.holds in
     let a = quoted-at u.quoted in
     let p : u.key.place ≡ get_or t k 0 = sym u.quoted.words.start in
@@ -184,260 +210,185 @@ repeated-step {P} {x} {t} {first} {k} {n} {b₀} {b} {r} {Q} {R} {fields} u g q 
       stand = fields-with o.stand o.ends u.quoted u.stands;
       ends = omega (arith, widths-with o.before u.key u.value, o.ends, u.word.next);
       also = rw (earlier-with [] o.before u.key u.value, a.text) q;
-      holds = λ z.
-          let y : r ≡ least b (map (fault 6) (cond (among (earlier [] o.before) (decode u.key.raw)) (u.key.place ∷ []) [])) = rw (a.text, p) (g z).1 in
-          rw (earlier-with [] o.before u.key u.value, y, ← least-++, ← map-append) (o.holds (g z).0);
+      holds =
+          let y : r ≡ least b (map (fault 6) (cond (among (earlier [] o.before) (decode u.key.raw)) (u.key.place ∷ []) [])) = rw (a.text, p) g in
+          rw (earlier-with [] o.before u.key u.value, y, ← least-++, ← map-append) o.holds;
     }
-
--- a least that is sure comes from one that is sure
-onward : (x t : List ℕ) (k : ℕ) {others b r : ℕ} (us : List (List ℕ)) → (Sure others r → Least x t k b r us) → Sure others r → Sure others b × Least x t k b r us
-onward x t k us g z = let y = g z in (sure-before (map (fault 6) (cond (among us (text_at x t k)) (get_or t k 0 ∷ []) [])) y z, y)
-
--- where there is another way, an answer that is sure is not 0
-not-zero : {r : ℕ} → Sure 1 r → r ≡ 0 → ⊥
-not-zero s z = omega (arith, s z)
 
 -- nothing is asked of the texts of the names
 abbrev pub Any : List (List ℕ) → Type 0
 Any us = Unit
 
 module _ {x t : List ℕ} {i : ℕ} where
-  begin : {p n : ℕ} {Q : List (List ℕ) → Type 0} (P : ℕ → Type 0) (b : ℕ) → AnyPart x t i → p ≡ get_or t i 0 → get_or x p 0 ≡ 123 → n ≡ get_or t (i + 2) 0 → Q []
-      → Sweeps P x t i (i + 3) n b (i + 3) b Q
+  pub sweep-begin : {p : ℕ} {r s : Siblings} {Q : List (List ℕ) → Type 0} (b : ℕ) → AnyPart x t i → p ≡ get_or t i 0 → get_or x p 0 ≡ 123 → Names x t i r → s ≡ r
+      → Q [] → Sweeps x t i b s b Q
   unfolding widths earlier
-  begin {p} {n} {Q} P b a q h o z = let d = of-object a.stands brace in record { some = a; brace = brace; ends = o; walk = walk_of (begun d.value d.stands); left = begun }
+  sweep-begin {p} {r} {s} {Q} b a q h e y z = rw y (record { some = a; brace = brace; over = record { table = e.table; lead = e.lead }; ends = ends d.stands; left = begun })
     where
       brace : get_or x (get_or t i 0) 0 ≡ 123
       brace = rw (← q) h
 
-      begun : (v : Json) → Sub x t i v → MembersLeft x t (i + 3) n (Earlier P x t (i + 3) (i + 3) b b Q (fields_of v))
-      begun v s = rw o (object-begin s (is-object brace s) (record { before = tree.empty; stand = last; ends = add-zero (i + 3); also = z; holds = λ y. refl }))
+      d : Tree x t i
+      d = of-object a.stands brace
 
-  pub sweep-begin : {p n : ℕ} (P : ℕ → Type 0) (b : ℕ) → AnyPart x t i → p ≡ get_or t i 0 → get_or x p 0 ≡ 123 → n ≡ get_or t (i + 2) 0 → Sweeps P x t i (i + 3) n b (i + 3) b Any
-  sweep-begin P b a q h o = begin P b a q h o tt
+      ends : {v : Json} → Sub x t i v → r.end ≡ get_or t (i + 2) 0
+      ends {v} w = e.end v w ∙ rw (is-object brace w) refl
 
-  module _ {P : ℕ → Type 0} {first n b₀ k b : ℕ} {Q : List (List ℕ) → Type 0} (c : Sweeps P x t i first n b₀ k b Q) where
-    turn : k < n → MemberPast x t k n (Earlier P x t first k b₀ b Q (fields_of (of-object c.some.stands c.brace).value))
-    turn l = let d = of-object c.some.stands c.brace in member-past (c.left d.value d.stands) l
+      begun : (v : Json) → Sub x t i v → MembersLeft x t r.at r.end (Earlier x t (i + 3) r.at b b Q (fields_of v))
+      begun v w = rw (e.at, ends w) (object-begin w (is-object brace w) (record { before = tree.empty; stand = last; ends = add-zero (i + 3); also = z; holds = refl }))
 
-    pub sweep-name : k < n → NameNode x t first k
-    sweep-name l = let u = turn l in record { before = u.holds.before; stand = u.holds.stand; ends = u.holds.ends; raw = u.key.raw; string = quoted-at u.quoted; short = c.some.short }
+  module _ {b₀ b : ℕ} {s : Siblings} {Q : List (List ℕ) → Type 0} (c : Sweeps x t i b₀ s b Q) where
+    module _ {k : ℕ} {u : Siblings} (g : StepsPast s k u) where
+      turn : {v : Json} → Sub x t i v → MemberPast x t k s.end (Earlier x t (i + 3) k b₀ b Q (fields_of v))
+      turn {v} w = rw g.node (member-past (c.left v w) g.more)
 
-    pub sweep-long : {ls₀ ls : List ℕ} → n ≤ length ls * 3 → Lent ls₀ ls → LongObject x t ls i
-    sweep-long f l = record { some = c.some; brace = c.brace; ends = rw (← c.ends) f; few = l.few }
+      now : MemberPast x t k s.end (Earlier x t (i + 3) k b₀ b Q (fields_of (of-object c.some.stands c.brace).value))
+      now = turn (of-object c.some.stands c.brace).stands
 
-    -- the names that were seen are no more than the nodes that were passed
-    pub sweep-seen : {seen m : ℕ} → k < n → seen ≤ k → m ≡ get_or t (k + 3 + 2) 0 → seen + 1 ≤ m
-    sweep-seen l h q = omega (arith, walk-less c.walk l q)
+      name-text : NameText x t k
+      name-text = let y = now in record { raw = y.key.raw; string = quoted-at y.quoted }
 
-    done : n ≤ k → P b → PartGives 6 own6 x t i b₀ b
+      pub sweep-name : NameNode x t (i + 3) k
+      sweep-name = let o = now.holds in record { before = o.before; stand = o.stand; ends = o.ends; name = name-text; short = c.some.short }
+
+      -- past one name
+      again : {r : ℕ} {R : List (List ℕ) → Type 0}
+          → ((ms : Members) → Fields x t (i + 3) ms → i + 3 + widths ms ≡ k → Q (earlier [] ms) → Least x t k b r (earlier [] ms) × R (text_at x t k ∷ earlier [] ms))
+          → Sweeps x t i b₀ u r R
+      again {r} {R} f = record { some = c.some; brace = c.brace; over = over-again c.over g; ends = g.end ∙ c.ends; left = λ v w. onto (turn w) }
+        where
+          onto : {fields : Members} (y : MemberPast x t k s.end (Earlier x t (i + 3) k b₀ b Q fields)) → MembersLeft x t u.at u.end (Earlier x t (i + 3) u.at b₀ r R fields)
+          onto y = let o = y.holds in let e = f o.before o.stand o.ends o.also in over-on c.over g y (rw (over-at c.over g) (repeated-step y e.0 e.1))
+
+      -- links for all nodes of an object that has a name are some
+      pub sweep-other : {n b' : ℕ} {ls₀ ls : List ℕ} {o : Option ℕ} → Lent ls₀ ls → n ≡ get_or t (i + 2) 0 → n ≤ length ls * 3 → PartTells 1 6 own6 x t i b' o
+          → PartTells (length ls₀) 6 own6 x t i b' o
+      sweep-other l q h p = tells-other p (λ z. omega (arith, g.more, c.ends, l.same))
+
+    done : s.end ≤ s.at → PartGives 6 own6 x t i b₀ b
     unfolding own6 repeated least
-    done h z = record { is = λ d s. it s }
+    done h = record { is = λ d z. it z }
       where
         it : {d : Part} → Stands x t i d → b ≡ least b₀ (map (fault 6) (own6 d))
-        it (of-value {v = v} s) = (members-ended (c.left v s) h).holds z
+        it (of-value {v = v} z) = (members-ended (c.left v z) h).holds
         it (of-name q) = absurd (no_name c.brace q)
 
-  pub sweep-told : {others first n b₀ k b : ℕ} {Q : List (List ℕ) → Type 0} → Sweeps (Sure others) x t i first n b₀ k b Q → n ≤ k → PartTells others 6 own6 x t i b₀ b
-  sweep-told c h = record { told = λ z. done c h z }
+    pub sweep-told : {u : Siblings} (others : ℕ) → (s.end ≤ s.at) × (u ≡ s) → PartTells others 6 own6 x t i b₀ (Some b)
+    sweep-told others h = record { told = done h.0 }
 
-  -- what the chains leave to another way is left where there are links
-  pub sweep-chained : {ls₀ ls : List ℕ} {n k b r : ℕ} → k < n → n ≤ length ls * 3 → Lent ls₀ ls → PartTells 1 6 own6 x t i b r → PartTells (length ls₀) 6 own6 x t i b r
-  sweep-chained l f e g = record { told = λ s. g.told (λ z. absurd (omega (arith, s z, e.same))) }
-
-  -- past one name
-  again : {P : ℕ → Type 0} {first n b₀ k b r m : ℕ} {Q R : List (List ℕ) → Type 0} → Sweeps P x t i first n b₀ k b Q → k < n → m ≡ get_or t (k + 3 + 2) 0
-      → ((ms : Members) → Fields x t first ms → first + widths ms ≡ k → Q (earlier [] ms) → (P r → P b × Least x t k b r (earlier [] ms)) × R (text_at x t k ∷ earlier [] ms))
-      → Sweeps P x t i first n b₀ m r R
-  again {P} {first} {n} {b₀} {k} {b} {r} {m} {Q} {R} c l q g =
-      record { some = c.some; brace = c.brace; ends = c.ends; walk = walk-on c.walk l q; left = λ v s. onto (member-past (c.left v s) l) }
-    where
-      onto : {fields : Members} (u : MemberPast x t k n (Earlier P x t first k b₀ b Q fields)) → MembersLeft x t m n (Earlier P x t first m b₀ r R fields)
-      onto u = let o = u.holds in let e = g o.before o.stand o.ends o.also in rw q (member-over u (repeated-step u e.0 e.1))
-
-  pub sweep-onward : {others first n b₀ k b r m : ℕ} → Sweeps (Sure others) x t i first n b₀ k b Any → k < n → RepeatGives x t first k b r → m ≡ get_or t (k + 3 + 2) 0
-      → Sweeps (Sure others) x t i first n b₀ m r Any
-  sweep-onward {first = first} {k = k} c l g q = again c l q (λ ms f e z. (onward x t k (earlier [] ms) (λ y. g.is ms f e), tt))
+  pub sweep-onward : {b₀ b r k : ℕ} {s u : Siblings} → Sweeps x t i b₀ s b Any → StepsPast s k u → RepeatGives x t (i + 3) k b r → Sweeps x t i b₀ u r Any
+  sweep-onward c g h = again c g (λ ms f e z. (h.is ms f e, tt))
 
 -- the same loop by chains
-pub record Threads (x t ls₀ ls hs : List ℕ) (i first n b₀ k b : ℕ) : Type 0 where
-  pub sweeps : Sweeps (Sure 1) x t i first n b₀ k b (Chains x t ls hs k)
-  room : n ≤ length ls * 3
+pub record Threads (x t ls₀ ls hs : List ℕ) (i b₀ : ℕ) (s : Siblings) (b : ℕ) : Type 0 where
+  pub sweeps : Sweeps x t i b₀ s b (Chains x t ls hs s.at)
+  room : get_or t (i + 2) 0 ≤ length ls * 3
   pub lent : Lent ls₀ ls
   heads : length hs ≡ 4096
 
+chains-at : {x t ls hs : List ℕ} {k m : ℕ} {us : List (List ℕ)} → k ≡ m → Chains x t ls hs m us → Chains x t ls hs k us
+chains-at q c = rw q c
+
 module _ {x t : List ℕ} {i : ℕ} where
-  pub thread-begin : {n : ℕ} (b : ℕ) {ls : List ℕ} (hs : List ℕ) → LongObject x t ls i → n ≡ get_or t (i + 2) 0 → hs ≡ replicate 4096 0 → Threads x t ls ls hs i (i + 3) n b (i + 3) b
-  thread-begin b {ls} hs d o z =
-      record {
-        sweeps = begin (Sure 1) b d.some refl d.brace o (chains-begin x t ls hs (i + 3) (fresh-zero 4096 z) (omega arith));
-        room = rw o d.ends;
-        lent = lent-begin d.few;
-        heads = fresh-length 4096 z;
-      }
-
-  module _ {first n b₀ k b : ℕ} {ls₀ ls hs : List ℕ} (c : Threads x t ls₀ ls hs i first n b₀ k b) where
-    pub thread-name : k < n → ChainAt x t ls hs k
-    thread-name l =
-        let u = turn c.sweeps l in
+  module _ {ls : List ℕ} (d : LongObject x t ls i) where
+    pub thread-begin : {r s : Siblings} {hs : List ℕ} (b : ℕ) → Names x t i r → s ≡ r → hs ≡ replicate 4096 0 → Threads x t ls ls hs i b s b
+    thread-begin {s = s} {hs = hs} b e y z =
+        let a : s.at ≡ i + 3 = rw y e.at in
         record {
-          texts = earlier [] u.holds.before;
-          chains = u.holds.also;
-          raw = u.key.raw;
-          string = quoted-at u.quoted;
-          short = c.sweeps.some.short;
-          inside = omega (arith, c.room);
-          low = omega (arith, c.room, c.lent.few);
-          value = walk-room c.sweeps.walk l;
-          heads = c.heads;
+          sweeps = sweep-begin b d.some refl d.brace e y (rw a (chains-begin x t ls hs (i + 3) (fresh-zero 4096 z) (omega arith)));
+          room = d.ends;
+          lent = lent-begin d.few;
+          heads = fresh-length 4096 z;
         }
 
-    pub thread-less : {m : ℕ} → k < n → m ≡ get_or t (k + 3 + 2) 0 → n - m < n - k
-    thread-less l q = walk-less c.sweeps.walk l q
+  module _ {b₀ b : ℕ} {s : Siblings} {ls₀ ls hs : List ℕ} (c : Threads x t ls₀ ls hs i b₀ s b) where
+    module _ {k : ℕ} {u : Siblings} (g : StepsPast s k u) where
+      pub thread-name : ChainAt x t ls hs k
+      thread-name =
+          let y = now c.sweeps g in
+          record {
+            texts = earlier [] y.holds.before;
+            chains = chains-at g.node y.holds.also;
+            name = name-text c.sweeps g;
+            short = c.sweeps.some.short;
+            inside = omega (arith, c.room, c.sweeps.ends, g.more, g.node);
+            low = omega (arith, c.room, c.lent.few, c.sweeps.ends, g.more, g.node);
+            value = y.word.room;
+            heads = c.heads;
+          }
 
-    pub thread-told : n ≤ k → PartTells 1 6 own6 x t i b₀ b
-    thread-told h = sweep-told c.sweeps h
+      pub thread-again : {r : ℕ} {ls' hs' : List ℕ} → ChainGives x t ls hs ls' hs' k b (Some r) → Threads x t ls₀ ls' hs' i b₀ u r
+      thread-again h =
+          let m : k + 3 ≤ u.at = omega (arith, over-at c.sweeps.over g, (now c.sweeps g).word.next) in
+          record {
+            sweeps = again c.sweeps g (λ ms f e z. let w = chains-at g.node z in (h.is _ w, h.more _ u.at w m));
+            room = rw h.links c.room;
+            lent = lent-on c.lent h.links;
+            heads = h.heads;
+          }
 
-    pub thread-again : {r m : ℕ} {ls' hs' : List ℕ} → k < n → ChainGives x t ls hs ls' hs' k b r → m ≡ get_or t (k + 3 + 2) 0 → Threads x t ls₀ ls' hs' i first n b₀ m r
-    thread-again {m = m} l g q =
-        let h : k + 3 ≤ m = omega (arith, (turn c.sweeps l).word.next) in
-        record {
-          sweeps = again c.sweeps l q (λ ms f e z. (onward x t k (earlier [] ms) (λ y. g.is (not-zero y) _ z), g.more _ m z h));
-          room = rw g.links c.room;
-          lent = lent-on c.lent g.links;
-          heads = g.heads;
-        }
+    pub thread-told : {u : Siblings} → (s.end ≤ s.at) × (u ≡ s) → PartTells 1 6 own6 x t i b₀ (Some b)
+    thread-told h = sweep-told c.sweeps 1 h
 
 -- the same loop by a trie, which was q₀ and has c entries
-pub record Enters (x t q₀ q : List ℕ) (c i first n b₀ k b : ℕ) : Type 0 where
-  pub sweeps : Sweeps (Sure 1) x t i first n b₀ k b (Entries x t q c)
+pub record Enters (x t q₀ q : List ℕ) (c i b₀ : ℕ) (s : Siblings) (b : ℕ) : Type 0 where
+  pub sweeps : Sweeps x t i b₀ s b (Entries x t q c)
   pub same : length q ≡ length q₀
   room : length q ≤ 327680
-  later : 3 ≤ k
+  later : 3 ≤ s.at
   some : 0 < c
   few : c * 5 ≤ length q
 
 module _ {x t : List ℕ} {i : ℕ} where
-  pub trie-object : {p : ℕ} {q : List ℕ} → AnyPart x t i → TrieRoom q → p ≡ get_or t i 0 → get_or x p 0 ≡ 123 → TrieObject x t q i
-  trie-object a l y h = record { part = a; object = rw (← y) h; room = l }
-
-  pub object-root : {q : List ℕ} → TrieObject x t q i → 5 ≤ length q
-  object-root f = f.room.root
-
-  pub object-fresh : {q₀ q : List ℕ} → TrieObject x t q₀ i → Emptied q₀ q → FreshObject x t q i
-  object-fresh f z =
-      let r = f.room in
-      record { object = record { part = f.part; object = f.object; room = record { root = rw z.room r.root; few = rw z.room r.few } }; value = z.value }
-
   module _ {q : List ℕ} (f : FreshObject x t q i) where
-    pub enter-third : i + 2 < length t
-    enter-third = any-third f.object.part
-
-    pub enter-onward : length t * 4 < 2 ^ 63 → Fits w64 (i + 3)
-    enter-onward h = any-onward f.object.part h
-
-    pub enter-begin : {n : ℕ} (b : ℕ) → n ≡ get_or t (i + 2) 0 → Enters x t q q 1 i (i + 3) n b (i + 3) b
-    enter-begin b o =
+    pub enter-begin : {r s : Siblings} (b : ℕ) → Names x t i r → s ≡ r → Enters x t q q 1 i b s b
+    enter-begin {s = s} b e y =
         let d = f.object in
+        let a : s.at ≡ i + 3 = rw y e.at in
         record {
-          sweeps = begin (Sure 1) b d.part refl d.object o (entries-begin x t q f.value);
+          sweeps = sweep-begin b d.part refl d.object e y (entries-begin x t q f.value);
           same = refl;
           room = d.room.few;
-          later = omega arith;
+          later = omega (arith, a);
           some = omega arith;
           few = d.room.root;
         }
 
-  module _ {first n b₀ k b c : ℕ} {q₀ q : List ℕ} (s : Enters x t q₀ q c i first n b₀ k b) where
-    pub enter-name : k < n → EntryAt x t q c k
-    enter-name l =
-        let u = turn s.sweeps l in
-        record {
-          texts = earlier [] u.holds.before;
-          entries = u.holds.also;
-          name = record { raw = u.key.raw; string = quoted-at u.quoted };
-          short = s.sweeps.some.short;
-          later = s.later;
-          room = s.room;
-          some = s.some;
-          few = s.few;
-        }
+  module _ {b₀ b c : ℕ} {s : Siblings} {q₀ q : List ℕ} (e : Enters x t q₀ q c i b₀ s b) where
+    module _ {k : ℕ} {u : Siblings} (g : StepsPast s k u) where
+      pub enter-name : EntryAt x t q c k
+      enter-name =
+          let y = now e.sweeps g in
+          record {
+            texts = earlier [] y.holds.before;
+            entries = y.holds.also;
+            name = name-text e.sweeps g;
+            short = e.sweeps.some.short;
+            later = rw g.node e.later;
+            room = e.room;
+            some = e.some;
+            few = e.few;
+          }
 
-    pub enter-again : {r m c' : ℕ} {q' : List ℕ} → k < n → EntryGives x t q c q' c' k b r → (c' ≡ 0 → ⊥) → m ≡ get_or t (k + 3 + 2) 0 → Enters x t q₀ q' c' i first n b₀ m r
-    enter-again {m = m} l g z y =
-        let o = g.told z in
-        record {
-          sweeps = again s.sweeps l y (λ ms f e w. (onward x t k (earlier [] ms) (λ v. o.is _ w), o.more _ w));
-          same = g.room ∙ s.same;
-          room = rw g.room s.room;
-          later = omega (arith, (turn s.sweeps l).word.next);
-          some = omega arith;
-          few = o.few;
-        }
+      pub enter-again : {w : Turn} {q' : List ℕ} → EntryGives x t q c q' k b (Some w) → Enters x t q₀ q' w.count i b₀ u w.least
+      enter-again h =
+          let o = h.told in
+          record {
+            sweeps = again e.sweeps g (λ ms f y z. (o.is _ z, o.more _ z));
+            same = h.room ∙ e.same;
+            room = rw h.room e.room;
+            later = omega (arith, e.later, g.onward);
+            some = o.some;
+            few = o.few;
+          }
 
-    pub enter-done : n ≤ k → PartTells 1 6 own6 x t i b₀ b
-    enter-done h = sweep-told s.sweeps h
+    pub enter-done : {u : Siblings} → (s.end ≤ s.at) × (u ≡ s) → PartTells 1 6 own6 x t i b₀ (Some b)
+    enter-done h = sweep-told e.sweeps 1 h
 
-    pub enter-next : k < n → k + 3 + 2 < length t
-    enter-next l = walk-room s.sweeps.walk l
+pub ruleset names = (rules, repeat-none, repeat-found)
 
-    pub enter-fits : k < n → length t * 4 < 2 ^ 63 → Fits w64 (k + 3)
-    enter-fits l h = walk-onward s.sweeps.walk l h
+pub ruleset sweeps = (rules, any-third, repeated-told)
 
-    pub enter-same : length q ≡ length q₀
-    enter-same = s.same
+pub ruleset threads = (rules, thread-begin)
 
--- 0 leaves it to another way
-pub left_open : {x t : List ℕ} (i b : ℕ) → PartTells 1 6 own6 x t i b 0
-left_open i b = record { told = λ s. absurd (omega (arith, s refl)) }
-
-pub ruleset names = (
-  rules,
-  string-first,
-  first-first,
-  first-low,
-  string-second,
-  string-some,
-  string-fits,
-  string-span,
-  string-low,
-  compare-begin,
-  compare-found,
-  compare-done,
-  repeat-none,
-  repeat-found,
-  walk_first,
-  walk-second,
-  walk-room,
-  walk-onward,
-  walk-some,
-  walk-fits,
-  walk-span,
-  walk-less,
-)
-
-pub ruleset sweeps = (
-  rules,
-  any-first,
-  any-third,
-  any-onward,
-  any-inside,
-  repeated-told,
-  sweep-begin,
-  sweep-name,
-  sweep-long,
-  lent-begin,
-  lent-on,
-  sweep-seen,
-  sweep-onward,
-  sweep-told,
-  sweep-chained,
-  walk-onward,
-  walk-less,
-)
-
-pub ruleset threads = (rules, left_open, any-third, any-onward, thread-begin, thread-name, thread-less, thread-again, thread-told)
-
-pub ruleset opens = (rules, any-first, any-inside, repeated-told, trie-object, object-root, object-fresh)
-
-pub ruleset enters = (rules, enter-third, enter-onward, enter-begin, enter-name, enter-again, enter-done, left_open, enter-next, enter-fits, enter-same, walk-less)
+pub ruleset enters = (rules, enter-begin)

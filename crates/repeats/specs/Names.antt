@@ -1,5 +1,5 @@
 -- What the functions ask and tell that compare a name with those before it.
-use Rattle.std.specs.Prelude.{◌≡◌, Bool, cond, List, [], ◌∷◌, map, ℕ, ◌+◌, ◌≤◌, length, get_or}
+use Rattle.std.specs.Prelude.{◌≡◌, Bool, cond, List, [], ◌∷◌, map, ℕ, ◌+◌, ◌≤◌, length, get_or, Option, MatchOption}
 use Rattle.strings.specs.Strings.{decode}
 use Rattle.json_text.specs.Tree.{Members, member}
 use Rattle.json_text.specs.Tree as tree
@@ -17,17 +17,13 @@ unfolding repeated fields_of
 own6 (value v) = repeated [] (fields_of v)
 own6 (name k) = []
 
--- an answer 0 leaves it to another way, unless there are no others
-abbrev pub Sure : ℕ → ℕ → Type 0
-Sure others r = r ≡ 0 → others ≡ 0
-
--- r is the least of b and of the faults of the part that stands at the node i, if that is sure
-pub record PartTells (others rule : ℕ) (own : Part → List ℕ) (x t : List ℕ) (i b r : ℕ) : Type 0 where
-  pub told : Sure others r → PartGives rule own x t i b r
+-- o is the least of b and of the faults of the part that stands at the node i, or it is left to another way, of which there are some
+pub record PartTells (others rule : ℕ) (own : Part → List ℕ) (x t : List ℕ) (i b : ℕ) (o : Option ℕ) : Type 0 where
+  pub told : MatchOption o (others ≡ 0 → ⊥) (λ r. PartGives rule own x t i b r)
 
 -- the same of rule 6 in the value that stands at the node 0
-pub record TreeTells (others : ℕ) (x t : List ℕ) (b r : ℕ) : Type 0 where
-  pub told : Sure others r → Gives (λ v. least b (map (fault 6) (rule6 v))) x t 0 r
+pub record TreeTells (others : ℕ) (x t : List ℕ) (b : ℕ) (o : Option ℕ) : Type 0 where
+  pub told : MatchOption o (others ≡ 0 → ⊥) (λ r. Gives (λ v. least b (map (fault 6) (rule6 v))) x t 0 r)
 
 -- the names of some members, decoded, the last first, before the texts `last`
 unfoldable pub earlier : List (List ℕ) → Members → List (List ℕ)
@@ -35,13 +31,17 @@ unfolding decode
 earlier last tree.empty = last
 earlier last (member k v ms) = earlier (decode k.raw ∷ last) ms
 
+-- a name at the node k
+pub record NameText (x t : List ℕ) (k : ℕ) : Type 0 where
+  pub raw : List ℕ
+  pub string : StringAt x t k raw
+
 -- a name stands at the node k, and from the node `first` up to it the members before it
 pub record NameNode (x t : List ℕ) (first k : ℕ) : Type 0 where
   pub before : Members
   pub stand : Fields x t first before
   pub ends : first + widths before ≡ k
-  pub raw : List ℕ
-  pub string : StringAt x t k raw
+  pub name : NameText x t k
   pub short : length x ≤ 65535
 
 -- r tells whether the name at the node k is among those before it

@@ -16,13 +16,13 @@ use Rattle.utf8.specs.Ascii.{ascii}
 use Rattle.json_text.specs.Tree.{Json}
 use Rattle.nodes.specs.Access.{Member, members, find, first_named}
 use Rattle.nodes.specs.Says.{Node, Seeks}
-use Rattle.nodes.specs.declared.Found.{Found}
+use Rattle.nodes.specs.Says.{Found}
 use Rattle.fields.specs.Fields.{elements_in, listed_in}
 use Rattle.ids.specs.Says.{Offsets, Objects, names_of}
 use Rattle.ids.proofs.Rules.{nobody, object-node, object-value, member-onward}
 use Rattle.marks.specs.Marks.{row_of}
 use Rattle.rows.specs.Rows.{link_number, link_numbers, listed_count}
-use Rattle.rows.specs.Says.{Listed, RoomFor, Numbered, ListFits, Appends, ListGives, RoomForWord, RowsGive}
+use Rattle.rows.specs.Says.{Listed, RoomFor, ListFits, Appends, ListGives, RoomForWord, RowsGive}
 
 -- ---- where the rows begin
 
@@ -127,11 +127,11 @@ pub record Filling (x t offsets ws rows₀ rows : List ℕ) (k at : ℕ) : Type 
   pub same : length rows ≡ length rows₀
   is : (ms : List Member) → Offsets x t ms offsets → Rowed asked.word ms rows k at
 
-pub filling-begin : {x t offsets heads nexts ws rows : List ℕ} {at : ℕ} → Numbered x t offsets heads nexts → RoomForWord x t offsets ws rows
+pub filling-begin : {x t offsets ws rows : List ℕ} {at : ℕ} → Objects x t offsets → RoomForWord x t offsets ws rows
     → at ≡ length offsets + 1 → Filling x t offsets ws rows rows 0 at
 unfolding listed_count
 filling-begin n a q = record {
-  objects = n.objects;
+  objects = n;
   asked = a;
   within = omega arith;
   same = refl;

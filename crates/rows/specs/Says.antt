@@ -7,11 +7,11 @@ use Rattle.json_text.specs.Tree.{Json}
 use Rattle.json_text.specs.Table.{Sub}
 use Rattle.nodes.specs.Access.{Member}
 use Rattle.nodes.specs.Says.{Finds, Sought}
-use Rattle.nodes.specs.declared.Found.{Found}
+use Rattle.nodes.specs.Says.{Found}
 use Rattle.fields.specs.Fields.{elements_in}
 use Rattle.marks.specs.Marks.{row_of}
 use Rattle.marks.specs.Says.{Table}
-use Rattle.ids.specs.Says.{Offsets, Objects, Chains, names_of}
+use Rattle.ids.specs.Says.{Offsets, names_of}
 use Rattle.rows.specs.Rows.{link_number, link_numbers, listed_count}
 
 -- the rows have the numbers of the objects that each object lists under a name
@@ -27,12 +27,7 @@ pub record RoomFor (x t offsets : List ℕ) (name : String) (rows : List ℕ) : 
 
 -- ---- the private functions
 
--- the objects, with the chains of their IDs
-pub record Numbered (x t offsets heads nexts : List ℕ) : Type 0 where
-  pub objects : Objects x t offsets
-  pub chains : Chains x t offsets heads nexts
-
--- r is the number of the object that the value at the node k names
+-- r is the number of the object that the value at the node k names; their count, if it names none
 pub record LinkGives (x t offsets : List ℕ) (k r : ℕ) : Type 0 where
   pub is : (ms : List Member) → Offsets x t ms offsets → (v : Json) → Sub x t k v → r ≡ link_number (names_of ms) v
   pub low : r ≤ length offsets

@@ -7,7 +7,7 @@ use Rattle.words.specs.Words.{object_words, code_of}
 use Rattle.nodes.specs.Access.{members, first_named, find}
 use Rattle.nodes.specs.Faults.{least}
 use Rattle.nodes.specs.Says.{Seeks, GivesFound}
-use Rattle.nodes.specs.declared.Found.{Found}
+use Rattle.nodes.specs.Says.{Found}
 use Rattle.fields.specs.Fields.{type_text, count_in}
 use Rattle.shapes.specs.Checks.{Check, all, object_kind}
 use Rattle.rules.specs.Schema.{word, object_type, geometries, links, city_object, three_pairs, transform, city_objects, vertices, city_json}

@@ -1,14 +1,14 @@
 -- What the walk over a node table asks and tells.
-use Rattle.std.specs.Prelude.{◌≡◌, true, List, [], ◌∷◌, length, drop, ℕ, ◌≤◌}
+use Rattle.std.specs.Prelude.{◌≡◌, List, [], ◌∷◌, length, drop, ℕ, ◌≤◌}
 use Rattle.std.proofs.Math.Option.{Option}
 use Rattle.utf8.specs.Ascii.{ascii}
 use Rattle.json_text.specs.Tree.{Json}
 use Rattle.json_text.specs.Table.{Sub}
-use Rattle.nodes.specs.Access.{is_object_value, Member, members, find}
+use Rattle.nodes.specs.Access.{Member, members, find}
 use Rattle.nodes.specs.Faults.{least}
-use Rattle.nodes.specs.Says.{Node, Finds, Gives}
-use Rattle.nodes.specs.declared.Found.{Found}
-use Rattle.nodes.specs.declared.Found.TheVariants.{At, Nothing}
+use Rattle.nodes.specs.Says.{Finds}
+use Rattle.nodes.specs.Says.{Found}
+use Rattle.std.specs.Prelude.{Some, None}
 use Rattle.fields.specs.Fields.{members_in, count_in, objects_of}
 use Rattle.fields.specs.Says.{MemberAt, Indexed}
 use Rattle.fields.specs.declared.Index.{Index}
@@ -21,15 +21,10 @@ unfoldable pub objects : Check
 unfolding required ascii city_objects count_in find
 objects v = required (ascii "CityObjects") (city_objects (count_in (find "vertices" v))) v
 
--- an object stands at the node i
-pub record ObjectNode (x t : List ℕ) (i : ℕ) : Type 0 where
-  pub node : Node x t i
-  pub is : Gives is_object_value x t i true
-
 -- what was found is the node of the name of the first of some members, or there are none
 unfoldable pub Extra : List ℕ → List ℕ → List Member → Found → Type 0
-Extra x t ms (At k) = (m : Member) × (rest : List Member) × (ms ≡ m ∷ rest) × MemberAt x t k m
-Extra x t ms Nothing = ms ≡ []
+Extra x t ms (Some k) = (m : Member) × (rest : List Member) × (ms ≡ m ∷ rest) × MemberAt x t k m
+Extra x t ms None = ms ≡ []
 
 -- some members' first is named there
 pub record Named (x t : List ℕ) (found : Found) : Type 0 where

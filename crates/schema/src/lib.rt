@@ -1,6 +1,6 @@
 // Rules 7 to 14 over the node table of a text, and the index of its city objects. Each function takes the least fault so far and gives the least.
-// A member has a function of its name, which looks it up and asks rule 8 if it is needed, or is handed what was found where others use it too;
-// one whose name ends in `_at` checks the value at its node. An object's function is a line of such calls.
+// A function whose name ends in `_at` checks the value at its node. An object's function is a line of checks of its members, each by `optional`,
+// `required` or, where others use what was found, `required_found`, which are handed the check of the member's value.
 #![tactic(auto)]
 
 ghost use Rattle.std.specs.Prelude.{◌<◌, [], ◌∷◌, length};
@@ -10,45 +10,28 @@ ghost use Rattle.nodes.specs.Access.{text_of};
 ghost use Rattle.nodes.specs.Faults.{least};
 ghost use Rattle.nodes.specs.Says.{Node, Sought, Gives};
 ghost use Rattle.fields.specs.Says.{StringNode};
-ghost use Rattle.shapes.specs.Checks.{all, object_kind, each_member};
+ghost use Rattle.shapes.specs.Checks.{all};
 ghost use Rattle.rules.specs.Schema.{one_word, object_type, city_json};
 ghost use Rattle.rules.specs.Schema as schema;
-ghost use Rattle.geometry.specs.Says.{Checked, optional, required, MemberFound, TypeAt, CodeAt};
+ghost use Rattle.geometry.specs.Says.{Checked, required, MemberFound, TypeAt, CodeAt};
 ghost use Rattle.schema.specs.Says as says;
-ghost use Rattle.schema.specs.Says.{ObjectNode, ExtraAt, ExtraFound, Named, Limited, Fills, IndexedAt};
+ghost use Rattle.schema.specs.Says.{ExtraAt, ExtraFound, Named, Limited, Fills, IndexedAt};
 
 use fields::Index;
-use nodes::Found;
+use geometry::{array_of, optional, required, required_found, string_that};
 
 // Rules 7 and 10: a string that is one word.
 fn one_word(text: &[u8], table: &[u32], k: usize, word: &[u8], best: u32) -> u32
     requires { (Node text.now table.now k) × (0 < length word.now) }
     ensures { Checked (one_word word.now) text.now table.now k best result }
 {
-    if !nodes::is_string(text, table, k) {
-        return shapes::string(text, table, k, best);
-    }
-    shapes::unless(
-        fields::is_word(text, table, k, word),
-        10,
+    string_that(
         text,
         table,
         k,
         best,
+        |k| fields::is_word(text, table, k, word),
     )
-}
-
-// A member that is needed and is one word.
-fn required_word(text: &[u8], table: &[u32], i: usize, name: &[u8], word: &[u8], best: u32) -> u32
-    requires { (Node text.now table.now i) × (0 < length word.now) }
-    ensures { Checked (required name.now (one_word word.now)) text.now table.now i best result }
-{
-    let found = nodes::member(text, table, i, name);
-    let a = shapes::need(found, text, table, i, best);
-    let Found::At(k) = found else {
-        return a;
-    };
-    one_word(text, table, k, word, a)
 }
 
 // Does the string at a node begin with a plus sign?
@@ -74,40 +57,8 @@ fn object_type_at(text: &[u8], table: &[u32], k: usize, code: usize, best: u32) 
     if code != 0 {
         return best;
     }
-    if is_added(text, table, k) {
-        return shapes::unless(false, 11, text, table, k, best);
-    }
-    shapes::unless(false, 10, text, table, k, best)
-}
-
-// An object's type, which is needed.
-fn object_type(text: &[u8], table: &[u32], i: usize, kind: Found, code: usize, best: u32) -> u32
-    requires { TypeAt object_words text.now table.now i kind code }
-    ensures { Checked (required (ascii "type") object_type) text.now table.now i best result }
-{
-    let a = shapes::need(kind, text, table, i, best);
-    let Found::At(k) = kind else {
-        return a;
-    };
-    object_type_at(text, table, k, code, a)
-}
-
-// The geometries of an object.
-fn geometries(
-    text: &[u8],
-    table: &[u32],
-    i: usize,
-    vertices: usize,
-    object: usize,
-    best: u32,
-) -> u32
-    requires { Node text.now table.now i }
-    ensures { Checked (optional (ascii "geometry") (schema.geometries vertices object)) text.now table.now i best result }
-{
-    let Found::At(k) = nodes::member(text, table, i, b"geometry") else {
-        return best;
-    };
-    geometry::geometries_at(text, table, k, vertices, object, best)
+    let rule = if is_added(text, table, k) { 11 } else { 10 };
+    shapes::unless(false, rule, text, table, k, best)
 }
 
 // An array of strings.
@@ -115,50 +66,13 @@ fn ids(text: &[u8], table: &[u32], i: usize, best: u32) -> u32
     requires { Node text.now table.now i }
     ensures { Checked schema.links text.now table.now i best result }
 {
-    if !nodes::is_array(text, table, i) {
-        return shapes::array(text, table, i, best);
-    }
-    let n = nodes::next(table, i);
-    let mut least = best;
-    let mut k = i + 3;
-    while k < n {
-        least = shapes::string(text, table, k, least);
-        k = nodes::next(table, k);
-    }
-    least
-}
-
-// The children of an object.
-fn children(text: &[u8], table: &[u32], i: usize, best: u32) -> u32
-    requires { Node text.now table.now i }
-    ensures { Checked (optional (ascii "children") schema.links) text.now table.now i best result }
-{
-    let Found::At(k) = nodes::member(text, table, i, b"children") else {
-        return best;
-    };
-    ids(text, table, k, best)
-}
-
-// The parents of an object.
-fn parents(text: &[u8], table: &[u32], i: usize, best: u32) -> u32
-    requires { Node text.now table.now i }
-    ensures { Checked (optional (ascii "parents") schema.links) text.now table.now i best result }
-{
-    let Found::At(k) = nodes::member(text, table, i, b"parents") else {
-        return best;
-    };
-    ids(text, table, k, best)
-}
-
-// A member that may be absent and is an object.
-fn optional_object(text: &[u8], table: &[u32], i: usize, name: &[u8], best: u32) -> u32
-    requires { Node text.now table.now i }
-    ensures { Checked (optional name.now object_kind) text.now table.now i best result }
-{
-    let Found::At(k) = nodes::member(text, table, i, name) else {
-        return best;
-    };
-    shapes::object(text, table, k, best)
+    array_of(
+        text,
+        table,
+        i,
+        best,
+        |k, best| shapes::string(text, table, k, best),
+    )
 }
 
 // A city object whose type was found, with its code.
@@ -166,7 +80,7 @@ fn city_object_of(
     text: &[u8],
     table: &[u32],
     i: usize,
-    kind: Found,
+    kind: Option<usize>,
     code: usize,
     vertices: usize,
     best: u32,
@@ -175,11 +89,46 @@ fn city_object_of(
     ensures { Checked (schema.city_object vertices) text.now table.now i best result }
 {
     let a = shapes::object(text, table, i, best);
-    let b = object_type(text, table, i, kind, code, a);
-    let c = optional_object(text, table, i, b"attributes", b);
-    let d = children(text, table, i, c);
-    let e = parents(text, table, i, d);
-    geometries(text, table, i, vertices, code, e)
+    let b = required_found(
+        text,
+        table,
+        i,
+        kind,
+        a,
+        |k, best| object_type_at(text, table, k, code, best),
+    );
+    let c = optional(
+        text,
+        table,
+        i,
+        b"attributes",
+        b,
+        |k, best| shapes::object(text, table, k, best),
+    );
+    let d = optional(
+        text,
+        table,
+        i,
+        b"children",
+        c,
+        |k, best| ids(text, table, k, best),
+    );
+    let e = optional(
+        text,
+        table,
+        i,
+        b"parents",
+        d,
+        |k, best| ids(text, table, k, best),
+    );
+    optional(
+        text,
+        table,
+        i,
+        b"geometry",
+        e,
+        |k, best| geometry::geometries_at(text, table, k, vertices, code, best),
+    )
 }
 
 // A city object.
@@ -192,52 +141,28 @@ fn city_object(text: &[u8], table: &[u32], i: usize, vertices: usize, best: u32)
     city_object_of(text, table, i, kind, code, vertices, best)
 }
 
-// `scale` or `translate`, which is needed.
-fn required_pairs(text: &[u8], table: &[u32], i: usize, name: &[u8], best: u32) -> u32
-    requires { Node text.now table.now i }
-    ensures { Checked (required name.now schema.three_pairs) text.now table.now i best result }
-{
-    let found = nodes::member(text, table, i, name);
-    let a = shapes::need(found, text, table, i, best);
-    let Found::At(k) = found else {
-        return a;
-    };
-    shapes::three_pairs(text, table, k, a)
-}
-
 // A transform.
 fn transform_at(text: &[u8], table: &[u32], i: usize, best: u32) -> u32
     requires { Node text.now table.now i }
     ensures { Checked schema.transform text.now table.now i best result }
 {
     let a = shapes::object(text, table, i, best);
-    let b = required_pairs(text, table, i, b"scale", a);
-    required_pairs(text, table, i, b"translate", b)
-}
-
-// The transform, which is needed.
-fn transform(text: &[u8], table: &[u32], i: usize, best: u32) -> u32
-    requires { Node text.now table.now i }
-    ensures { Checked (required (ascii "transform") schema.transform) text.now table.now i best result }
-{
-    let found = nodes::member(text, table, i, b"transform");
-    let a = shapes::need(found, text, table, i, best);
-    let Found::At(k) = found else {
-        return a;
-    };
-    transform_at(text, table, k, a)
-}
-
-// The vertices that were found, which are needed.
-fn vertices(text: &[u8], table: &[u32], i: usize, found: Found, best: u32) -> u32
-    requires { MemberFound (ascii "vertices") text.now table.now i found }
-    ensures { Checked (required (ascii "vertices") schema.vertices) text.now table.now i best result }
-{
-    let a = shapes::need(found, text, table, i, best);
-    let Found::At(k) = found else {
-        return a;
-    };
-    shapes::vertices(text, table, k, a)
+    let b = required(
+        text,
+        table,
+        i,
+        b"scale",
+        a,
+        |k, best| shapes::three_pairs(text, table, k, best),
+    );
+    required(
+        text,
+        table,
+        i,
+        b"translate",
+        b,
+        |k, best| shapes::three_pairs(text, table, k, best),
+    )
 }
 
 // What the walk over the city objects gives: the index of the first 1,024, and the least fault.
@@ -251,83 +176,44 @@ pub struct Walked {
 #[derive(Drop)]
 struct Filled {
     index: Index,
-    extra: Found,
+    extra: Option<usize>,
 }
 
 // Fills the index of the city objects that were found; other values have none.
-fn fill_index(text: &[u8], table: &[u32], found: Found) -> Filled
+fn fill_index(text: &[u8], table: &[u32], found: Option<usize>) -> Filled
     requires { Sought text.now table.now found }
     ensures { Fills text.now table.now found result.index result.extra }
 {
-    let mut offsets: [usize; 1024] = [0; 1024];
-    let mut count: usize = 0;
-    let Found::At(i) = found else {
-        return Filled {
-            index: Index {
-                offsets: offsets,
-                count: count,
-            },
-            extra: Found::Nothing,
-        };
+    let mut index = Index {
+        offsets: [0; 1024],
+        count: 0,
     };
-    if !nodes::is_object(text, table, i) {
-        return Filled {
-            index: Index {
-                offsets: offsets,
-                count: count,
-            },
-            extra: Found::Nothing,
-        };
-    }
-    let n = nodes::next(table, i);
-    let mut k = i + 3;
-    while k < n {
-        if count == 1024 {
+    let Some(i) = found else {
+        return Filled { index, extra: None };
+    };
+    for k in nodes::names(text, table, i) {
+        let full = index.count == 1024;
+        if full {
             return Filled {
-                index: Index {
-                    offsets: offsets,
-                    count: count,
-                },
-                extra: Found::At(k),
+                index,
+                extra: Some(k),
             };
         }
-        offsets[count] = k;
-        count += 1;
-        k = nodes::next(table, k + 3);
+        index.offsets[index.count] = k;
+        index.count += 1;
     }
-    Filled {
-        index: Index {
-            offsets: offsets,
-            count: count,
-        },
-        extra: Found::Nothing,
-    }
+    Filled { index, extra: None }
 }
 
 // Rule 9: more than 1,024 city objects, at the name of the 1,025th.
-fn too_many(text: &[u8], table: &[u32], extra: Found, best: u32) -> u32
+fn too_many(text: &[u8], table: &[u32], extra: Option<usize>, best: u32) -> u32
     requires { Named text.now table.now extra }
     ensures { Limited text.now table.now extra best result }
 {
-    let Found::At(k) = extra else {
+    let Some(k) = extra else {
         return best;
     };
     nodes::lesser(best, nodes::fault_at(9, nodes::start(table, k)))
-}
-
-// Each city object, at the node of the object that holds them.
-fn each_object(text: &[u8], table: &[u32], i: usize, vertices: usize, best: u32) -> u32
-    requires { ObjectNode text.now table.now i }
-    ensures { Gives (λ v. least best (each_member (schema.city_object vertices) v)) text.now table.now i result }
-{
-    let n = nodes::next(table, i);
-    let mut least = best;
-    let mut k = i + 3;
-    while k < n {
-        least = city_object(text, table, k + 3, vertices, least);
-        k = nodes::next(table, k + 3);
-    }
-    least
 }
 
 // The city objects: an object (7) of at most 1,024 (9) of them, of which the name of the next is known.
@@ -335,61 +221,83 @@ fn city_objects_at(
     text: &[u8],
     table: &[u32],
     i: usize,
-    extra: Found,
+    extra: Option<usize>,
     vertices: usize,
     best: u32,
 ) -> u32
     requires { (Node text.now table.now i) × (ExtraAt text.now table.now i extra) }
     ensures { Checked (schema.city_objects vertices) text.now table.now i best result }
 {
-    if !nodes::is_object(text, table, i) {
-        return shapes::object(text, table, i, best);
+    let a = shapes::object(text, table, i, best);
+    let mut least = too_many(text, table, extra, a);
+    for k in nodes::names(text, table, i) {
+        least = city_object(text, table, k + 3, vertices, least);
     }
-    let a = too_many(text, table, extra, best);
-    each_object(text, table, i, vertices, a)
-}
-
-// The city objects that were found, which are needed.
-fn city_objects(
-    text: &[u8],
-    table: &[u32],
-    i: usize,
-    found: Found,
-    extra: Found,
-    vertices: usize,
-    best: u32,
-) -> u32
-    requires { (MemberFound (ascii "CityObjects") text.now table.now i found) × (ExtraFound text.now table.now found extra) }
-    ensures { Checked (required (ascii "CityObjects") (schema.city_objects vertices)) text.now table.now i best result }
-{
-    let a = shapes::need(found, text, table, i, best);
-    let Found::At(k) = found else {
-        return a;
-    };
-    city_objects_at(text, table, k, extra, vertices, a)
+    least
 }
 
 // The city objects that were found, over the vertices, and these.
-fn town(text: &[u8], table: &[u32], objects: Found, extra: Found, best: u32) -> u32
+fn town(text: &[u8], table: &[u32], objects: Option<usize>, extra: Option<usize>, best: u32) -> u32
     requires { (MemberFound (ascii "CityObjects") text.now table.now 0 objects) × (ExtraFound text.now table.now objects extra) }
     ensures { Checked (all (says.objects ∷ required (ascii "vertices") schema.vertices ∷ []))
         text.now table.now 0 best result }
 {
     let points = nodes::member(text, table, 0, b"vertices");
     let count = fields::count_found(text, table, points);
-    let a = city_objects(text, table, 0, objects, extra, count, best);
-    vertices(text, table, 0, points, a)
+    let a = required_found(
+        text,
+        table,
+        0,
+        objects,
+        best,
+        |k, best| city_objects_at(text, table, k, extra, count, best),
+    );
+    required_found(
+        text,
+        table,
+        0,
+        points,
+        a,
+        |k, best| shapes::vertices(text, table, k, best),
+    )
 }
 
 // A root of the type `CityJSON`, whose city objects were found.
-fn city_json(text: &[u8], table: &[u32], objects: Found, extra: Found, best: u32) -> u32
+fn city_json(
+    text: &[u8],
+    table: &[u32],
+    objects: Option<usize>,
+    extra: Option<usize>,
+    best: u32,
+) -> u32
     requires { (MemberFound (ascii "CityObjects") text.now table.now 0 objects) × (ExtraFound text.now table.now objects extra) }
     ensures { Checked city_json text.now table.now 0 best result }
 {
     let a = shapes::object(text, table, 0, best);
-    let b = required_word(text, table, 0, b"type", b"CityJSON", a);
-    let c = required_word(text, table, 0, b"version", b"2.0", b);
-    let d = transform(text, table, 0, c);
+    let b = required(
+        text,
+        table,
+        0,
+        b"type",
+        a,
+        |k, best| one_word(text, table, k, b"CityJSON", best),
+    );
+    let c = required(
+        text,
+        table,
+        0,
+        b"version",
+        b,
+        |k, best| one_word(text, table, k, b"2.0", best),
+    );
+    let d = required(
+        text,
+        table,
+        0,
+        b"transform",
+        c,
+        |k, best| transform_at(text, table, k, best),
+    );
     town(text, table, objects, extra, d)
 }
 
@@ -400,12 +308,7 @@ pub fn root(text: &[u8], table: &[u32], best: u32) -> Walked
     ensures indexed_at { IndexedAt text.now table.now result.index }
 {
     let objects = nodes::member(text, table, 0, b"CityObjects");
-    let filled = fill_index(text, table, objects);
-    let index = filled.index;
-    let extra = filled.extra;
+    let Filled { index, extra } = fill_index(text, table, objects);
     let least = city_json(text, table, objects, extra, best);
-    Walked {
-        index: index,
-        least: least,
-    }
+    Walked { index, least }
 }

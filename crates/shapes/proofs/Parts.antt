@@ -1,13 +1,13 @@
 -- Integers, pairs and vertices at a node, from what the code's tests say.
-use Prim.Native.Nat.{ℕ, ◌+◌, ◌-◌, ◌<◌, ◌≤◌, min}
+use Prim.Native.Nat.{ℕ, ◌+◌, ◌≤◌, min}
 use mathlib.Core.Path.{◌≡◌, refl, sym, ap, ◌∙◌}
 use mathlib.Core.Bool.{Bool, true, false, not, ◌&&◌, ◌||◌}
 use mathlib.Core.List.{List, ◌++◌}
 use mathlib.Core.Logic.{◌⊎◌, inl, inr}
-use mathlib.Core.Option.{Option, some}
+use mathlib.Core.Option.{some}
 use mathlib.Core.Option as option
 use lib.IntN.{ℤ}
-use native.Mathlib.Omega.{arith}
+use Rattle.std.proofs.Common.{Option, Some, None}
 use lib.ListN.{length, get_or}
 use lib.Seq.{slice}
 use lib.Dec.{eqb}
@@ -15,21 +15,19 @@ use borrow.Author.Tests.{not-true, not-false, ne_eqb, eq-eqb}
 use Rattle.utf8.specs.Laws.{never}
 use Rattle.numerals.specs.Numerals.{Decimal, is_integer, integer, pair_of, fits32}
 use Rattle.numerals.specs.Reading.{pair_in}
-use Rattle.numerals.specs.declared.Numeral.{Numeral}
-use Rattle.numerals.specs.declared.Numeral.TheVariants.{Pair, Out}
 use Rattle.json_text.specs.Tree.{Json}
 use Rattle.json_text.specs.Table.{Sub}
-use Rattle.json_text.specs.Laws.{Left, Past, past, over, ended}
-use Rattle.nodes.specs.Access.{is_number_value, is_array_value, listed, elements, numeral_of}
+use Rattle.nodes.specs.Access.{is_number_value, is_array_value, elements, numeral_of}
 use Rattle.nodes.specs.Faults.{fault, least}
+use Rattle.std.specs.Prelude.{Result, Ok, Err}
 use Rattle.nodes.specs.Says.{Node, Gives}
-use Rattle.nodes.specs.Laws.{place_at, numeral-at, elements-begin, least-++}
+use Rattle.nodes.specs.Siblings.{Elements, StepsPast}
+use Rattle.nodes.specs.declared.Siblings.{Siblings}
+use Rattle.nodes.specs.Walk.{Running, run-begin, run-node, run-known, run_turn, run-done}
+use Rattle.nodes.specs.Laws.{place_at, numeral-at, least-++}
 use Rattle.shapes.specs.Checks.{Check, unless, each_element, array_kind, number_kind, numeral, is_some}
 use Rattle.shapes.specs.Shapes.{is_integer_value, all_integers, three_entries, pair_range, or_fault, pair_or_fault, is_triple, coordinate, vertex}
 use Rattle.shapes.specs.Says.{Clears, paired_as, GivesPair}
-use Rattle.shapes.specs.declared.Paired.{Paired}
-use Rattle.shapes.specs.declared.Paired.TheVariants.{Fault}
-use Rattle.shapes.specs.declared.Paired.TheVariants as paired
 use Rattle.shapes.specs.Laws.{least-turn, least-none, unless-true, numeral-none, numeral-is}
 
 -- a test or another that is known
@@ -107,32 +105,32 @@ module _ {x t : List ℕ} {i : ℕ} where
   unfolding pair_range
   pair-none best g e = numeral-none best 13 (λ raw. is_some (pair_of raw)) g e
 
-  module _ {p e : ℕ} (a : Numeral) (g : Gives is_number_value x t i true) (q : p ≡ get_or t i 0) (o : e ≡ get_or t (i + 1) 0) (m : pair_in a ≡ pair_of (slice p e x)) where
+  module _ {p e : ℕ} (a : Option (ℤ × ℤ)) (g : Gives is_number_value x t i true) (q : p ≡ get_or t i 0) (o : e ≡ get_or t (i + 1) 0) (m : pair_in a ≡ pair_of (slice p e x)) where
     pair-bytes : (v : Json) → Sub x t i v → pair_in a ≡ pair_of (numeral_of v)
     pair-bytes v s = rw ((numeral-at s (sym (g.is v s))).bytes, ← q, ← o) m
 
-    pub pair-fault : {f : ℕ} → a ≡ Out → f ≡ fault 13 p → GivesPair x t i (Fault f)
+    pub pair-fault : {f : ℕ} → a ≡ None → f ≡ fault 13 p → GivesPair x t i (Err f)
     unfolding paired_as pair_or_fault or_fault pair_in
     pair-fault k z = record { is = λ v s. rw (← pair-bytes v s, k, z, q, ← place_at s) }
 
-    pub pair-taken : {n d : ℤ} → a ≡ Pair n d → GivesPair x t i (paired.Pair n d)
+    pub pair-taken : {d : ℤ × ℤ} → a ≡ Some d → GivesPair x t i (Ok d)
     unfolding paired_as pair_or_fault or_fault pair_in
     pair-taken k = record { is = λ v s. rw (← pair-bytes v s, k) }
 
-  module _ (best : ℕ) {a : Paired} (g : Gives is_number_value x t i true) (r : GivesPair x t i a) where
+  module _ (best : ℕ) {a : Result (ℤ × ℤ) ℕ} (g : Gives is_number_value x t i true) (r : GivesPair x t i a) where
     pair-least : (v : Json) → Sub x t i v → least best (pair_range v) ≡ or_best best (paired_as a)
     unfolding pair_or_fault pair_range numeral unless is_some or_fault least
     pair-least v s = by (pair_of (numeral_of v)) refl ∙ ap (or_best best) (sym (r.is v s))
       where
-        by : (o : Option Decimal) → pair_of (numeral_of v) ≡ o → least best (pair_range v) ≡ or_best best (or_fault v o)
+        by : (o : option.Option Decimal) → pair_of (numeral_of v) ≡ o → least best (pair_range v) ≡ or_best best (or_fault v o)
         by option.none e = rw (← g.is v s, e)
         by (some d) e = rw (← g.is v s, e)
 
-    pub pair-in : {n d : ℤ} → a ≡ paired.Pair n d → Gives (λ v. least best (pair_range v)) x t i best
+    pub pair-in : {p : ℤ × ℤ} → a ≡ Ok p → Gives (λ v. least best (pair_range v)) x t i best
     unfolding paired_as
     pair-in k = record { is = λ v s. sym (pair-least v s ∙ ap (λ c. or_best best (paired_as c)) k) }
 
-    pub pair-out : {f c : ℕ} → a ≡ Fault f → c ≡ min best f → Gives (λ v. least best (pair_range v)) x t i c
+    pub pair-out : {f c : ℕ} → a ≡ Err f → c ≡ min best f → Gives (λ v. least best (pair_range v)) x t i c
     unfolding paired_as
     pair-out k z = record { is = λ v s. z ∙ sym (pair-least v s ∙ ap (λ c. or_best best (paired_as c)) k) }
 
@@ -186,49 +184,29 @@ module _ {x t : List ℕ} {i : ℕ} where
   unfolding vertex
   vertex-is best {b} g e u = record { is = λ v s. let z : is_triple v ≡ true = sym (g.is v s) ∙ not-false b e in rw z (u.is v s) }
 
--- A loop over the elements of the array at i, all of which were integers up to the node k
-pub record Integers (x t : List ℕ) (i n k : ℕ) : Type 0 where
-  pub node : Node x t i
-  pub left : (v : Json) → Sub x t i v → Left x t k n (λ vs. all_integers (listed vs) ≡ all_integers (elements v))
+-- A loop over the elements of the value at i, all of which were integers where it has come to s
+pub record Integers (x t : List ℕ) (i : ℕ) (s : Siblings) : Type 0 where
+  pub run : Running x t i s (λ all left. all_integers left ≡ all_integers all)
 
-module _ {x t : List ℕ} {i : ℕ} where
-  pub integers-start : {n : ℕ} → Node x t i → Gives is_array_value x t i true → n ≡ get_or t (i + 2) 0 → Integers x t i n (i + 3)
-  integers-start d g q = record { node = d; left = λ v s. rw q (elements-begin (λ vs. all_integers vs ≡ all_integers (elements v)) s (sym (g.is v s)) refl) }
+module _ {x t : List ℕ} {i : ℕ} {s : Siblings} where
+  pub integers-begin : {r : Siblings} → Node x t i → Elements x t i r → s ≡ r → Integers x t i s
+  integers-begin d e q = record { run = run-begin (λ all left. all_integers left ≡ all_integers all) d e q (λ l. refl) }
 
-  module _ {n k : ℕ} (p : Integers x t i n k) where
-    here : k < n → Past x t k n (λ vs. all_integers (listed vs) ≡ all_integers (elements p.node.value))
-    here l = past (p.left p.node.value p.node.stands) l
+  module _ (p : Integers x t i s) where
+    module _ {k : ℕ} {u : Siblings} (g : StepsPast s k u) where
+      pub integers-node : Node x t k
+      integers-node = run-node p.run g
 
-    pub integers-node : k < n → Node x t k
-    integers-node l = let u = here l in record { value = u.value; stands = u.stands; short = p.node.short }
+      pub integers-wrong : {r : Bool} → Gives is_integer_value x t k r → r ≡ false → Gives (λ v. all_integers (elements v)) x t i false
+      unfolding all_integers
+      integers-wrong h e = record { is = λ v z. run-known p.run g z (λ y vs q o. rw (sym (h.is y q) ∙ e) at o) }
 
-    pub integers-room : k < n → k + 2 < length t
-    integers-room l = (here l).word.room
+      pub integers-turn : {r : Bool} → Gives is_integer_value x t k r → r ≡ true → Integers x t i u
+      unfolding all_integers
+      integers-turn h e = record {
+        run = run_turn p.run g (λ all left. all_integers left ≡ all_integers all) (λ all v vs z o. rw (sym (h.is v z) ∙ e) at o);
+      }
 
-    pub integers-less : {m : ℕ} → k < n → m ≡ get_or t (k + 2) 0 → n - m < n - k
-    integers-less l q = let u = here l in omega (arith, u.more, u.within)
-
-    pub integers-wrong : {r : Bool} → k < n → Gives is_integer_value x t k r → not r ≡ true → Gives (λ v. all_integers (elements v)) x t i false
-    unfolding listed all_integers
-    integers-wrong {r} l g e =
-        record {
-          is = λ v s.
-              let u = past (p.left v s) l in
-              let z : is_integer_value u.value ≡ false = sym (g.is u.value u.stands) ∙ not-true r e in
-              rw z at u.holds;
-        }
-
-    pub integers-turn : {m : ℕ} {r : Bool} → k < n → Gives is_integer_value x t k r → not r ≡ false → m ≡ get_or t (k + 2) 0 → Integers x t i n m
-    unfolding listed all_integers
-    integers-turn {m} {r} l g e q =
-        record {
-          node = p.node;
-          left = λ v s.
-              let u = past (p.left v s) l in
-              let z : is_integer_value u.value ≡ true = sym (g.is u.value u.stands) ∙ not-false r e in
-              rw q (over u (rw z at u.holds));
-        }
-
-    pub integers-done : n ≤ k → Gives (λ v. all_integers (elements v)) x t i true
-    unfolding listed all_integers
-    integers-done h = record { is = λ v s. ended (p.left v s) h }
+    pub integers-done : {u : Siblings} → (s.end ≤ s.at) × (u ≡ s) → Gives (λ v. all_integers (elements v)) x t i true
+    unfolding all_integers
+    integers-done h = record { is = λ v z. run-done p.run h.0 z }

@@ -9,25 +9,25 @@ use Rattle.json_text.specs.Tree.{Json}
 use Rattle.nodes.specs.Access.{is_object_value}
 use Rattle.nodes.specs.Faults.{least}
 use Rattle.nodes.specs.Says.{Gives, Finds}
-use Rattle.nodes.specs.declared.Found.{Found}
-use Rattle.nodes.specs.declared.Found.TheVariants.{At, Nothing}
+use Rattle.nodes.specs.Says.{Found}
+use Rattle.std.specs.Prelude.{Some, None}
 use Rattle.shapes.specs.Checks.{unless, is_some}
 use Rattle.shapes.specs.Says.{Needs}
 use Rattle.shapes.specs.Laws.{checking, unless-true}
-use Rattle.shapes.proofs.Parts.{or-true, or-false, clears-none, number-node, integer-no, integer-is, triple-kind, triple-array, triple-count, triple-is, vertex-array, integers-start, integers-node, integers-room, integers-less, integers-wrong, integers-turn, integers-done}
+use Rattle.shapes.proofs.Parts.{or-true, or-false, clears-none, number-node, integer-no, integer-is, triple-kind, triple-array, triple-count, triple-is, vertex-array, integers-begin}
 use Rattle.shapes.proofs.Triples.{small-none, small_is, plain-onward, plain-begin, plain-first}
 
 -- rule 8
 module _ {x t : List ℕ} {i : ℕ} (best : ℕ) {found : Found} where
-  pub need-nothing : {r : ℕ} (b : Bool) → found ≡ Nothing → Gives is_object_value x t i b → Gives (λ v. least best (unless (not b) 8 v)) x t i r → Needs x t found i best r
+  pub need-nothing : {r : ℕ} (b : Bool) → found ≡ None → Gives is_object_value x t i b → Gives (λ v. least best (unless (not b) 8 v)) x t i r → Needs x t found i best r
   unfolding Finds is_some
   need-nothing {r} b e g u = record { is = λ v o s f. let z : o ≡ option.none = rw e at f in u.is v s ∙ ap (λ (b : Bool). least best (unless b 8 v)) (rw (g.is v s, z) (sym (or-false _))) }
 
-  pub need-found : {k : ℕ} → found ≡ At k → Needs x t found i best best
+  pub need-found : {k : ℕ} → found ≡ Some k → Needs x t found i best best
   unfolding Finds is_some
   need-found {k} e = record { is = λ v o s f. go v o (rw e at f) }
     where
-      go : (v : Json) (o : Option Json) → Finds x t o (At k) → best ≡ least best (unless (not (is_object_value v) || is_some o) 8 v)
+      go : (v : Json) (o : Option Json) → Finds x t o (Some k) → best ≡ least best (unless (not (is_object_value v) || is_some o) 8 v)
       go v o (w, q, z) = unless-true best 8 v (ap (λ o. not (is_object_value v) || is_some o) q ∙ or-true (not (is_object_value v)))
 
 -- what `search` is handed to close what the functions leave
@@ -42,13 +42,7 @@ pub ruleset shapes = (
   triple-count,
   triple-is,
   vertex-array,
-  integers-start,
-  integers-node,
-  integers-room,
-  integers-less,
-  integers-wrong,
-  integers-turn,
-  integers-done,
+  integers-begin,
   clears-none,
   small-none,
   small_is,

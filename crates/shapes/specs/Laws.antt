@@ -17,10 +17,13 @@ use Rattle.json_text.specs.Laws.{words, Left, Past, past, over, ended, MembersLe
 use Rattle.nodes.specs.Access.{is_number_value, is_string_value, is_array_value, is_object_value, listed, elements, pairs, members, first_named, find, text_of, numeral_of}
 use Rattle.nodes.specs.Faults.{fault, least}
 use Rattle.nodes.specs.Says.{Node, Gives, Seeks}
-use Rattle.nodes.specs.declared.Found.{Found}
+use Rattle.nodes.specs.Says.{Found}
+use Rattle.nodes.specs.Siblings.{Elements, StepsPast}
+use Rattle.nodes.specs.declared.Siblings.{Siblings}
+use Rattle.nodes.specs.Walk.{Running, run-begin, run-node, run_turn, run-done}
 use Rattle.nodes.specs.Reads.{node-room, node-second, node-first, node-onward}
 use Rattle.nodes.specs.Laws.{place_at, text-at, numeral-at, elements-begin, fields-begin, no-elements, no-members, least-++, least-comm}
-use Rattle.shapes.specs.Checks.{Check, unless, all, at, for_each, each_element, values, each_member, object_kind, string_kind, number_kind, array_kind, is_some, needs, text, numeral}
+use Rattle.shapes.specs.Checks.{Check, unless, all, for_each, each_element, values, each_member, object_kind, string_kind, number_kind, array_kind, is_some, needs, text, numeral}
 use Rattle.shapes.specs.Shapes.{is_integer_value}
 use Rattle.shapes.specs.Says.{Needs}
 
@@ -245,6 +248,30 @@ module _ {c : Check} {x t : List ℕ} {i best : ℕ} where
     unfolding listed for_each least
     pass-done h = record { is = λ v s. ended (p.left v s) h }
 
+-- The same loop by an iterator, which has come to s
+pub record Passing (c : Check) (x t : List ℕ) (i best : ℕ) (s : Siblings) (acc : ℕ) : Type 0 where
+  pub run : Running x t i s (λ all left. least acc (for_each c left) ≡ least best (for_each c all))
+
+pub passing-begin : {c : Check} {x t : List ℕ} {i best : ℕ} {s r : Siblings} → Node x t i → Elements x t i r → s ≡ r → Passing c x t i best s best
+passing-begin {c} {best = best} d e q = record { run = run-begin (λ all left. least best (for_each c left) ≡ least best (for_each c all)) d e q (λ l. refl) }
+
+module _ {c : Check} {x t : List ℕ} {i best : ℕ} {s : Siblings} {acc : ℕ} (p : Passing c x t i best s acc) where
+  module _ {k : ℕ} {u : Siblings} (g : StepsPast s k u) where
+    pub passing-node : Node x t k
+    passing-node = run-node p.run g
+
+    -- one turn
+    pub passing-turn : {acc' : ℕ} → Gives (λ w. least acc (c w)) x t k acc' → Passing c x t i best u acc'
+    passing-turn {acc'} h = record {
+      run = run_turn p.run g (λ all left. least acc' (for_each c left) ≡ least best (for_each c all))
+          (λ all v vs z o. ap (λ (a : ℕ). least a (for_each c vs)) (h.is v z) ∙ (sym (least-for_each acc c v vs) ∙ o));
+    }
+
+  -- its end
+  pub passing-done : {u : Siblings} → (s.end ≤ s.at) × (u ≡ s) → Gives (λ v. least best (each_element c v)) x t i acc
+  unfolding each_element for_each least
+  passing-done h = record { is = λ v z. run-done p.run h.0 z }
+
 -- two checks of each element
 pub each_both : {x t : List ℕ} {i : ℕ} (best : ℕ) (c d : Check) {r : ℕ} → Gives (λ v. least best (each_element (λ w. c w ++ d w) v)) x t i r
     → Gives (λ v. least best (each_element c v ++ each_element d v)) x t i r
@@ -345,6 +372,10 @@ pub ruleset checking = (
   pass-turn,
   pass-less,
   pass-done,
+  passing-begin,
+  passing-node,
+  passing-turn,
+  passing-done,
   members-none,
   members-start,
   members-begin,

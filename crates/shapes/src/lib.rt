@@ -12,9 +12,6 @@ ghost use Rattle.shapes.specs.Shapes.{is_integer_value, all_integers, three_entr
 ghost use Rattle.shapes.specs.Shapes as shape;
 ghost use Rattle.shapes.specs.Says.{GivesPair, Needs, Clears, IsSmall};
 
-use nodes::Found;
-use numerals::Numeral;
-
 // The fault of a rule at a node, unless it is kept there.
 pub fn unless(kept: bool, rule: u32, text: &[u8], table: &[u32], i: usize, best: u32) -> u32
     requires { (Node text.now table.now i) × (rule < 18) }
@@ -56,11 +53,11 @@ pub fn array(text: &[u8], table: &[u32], i: usize, best: u32) -> u32
 }
 
 // Rule 8: a member was found in the object at a node, if it is one.
-pub fn need(found: Found, text: &[u8], table: &[u32], i: usize, best: u32) -> u32
+pub fn need(found: Option<usize>, text: &[u8], table: &[u32], i: usize, best: u32) -> u32
     requires { (Node text.now table.now i) × (Sought text.now table.now found) }
     ensures { Needs text.now table.now found i best result }
 {
-    let Found::At(_) = found else {
+    let Some(_) = found else {
         return unless(!nodes::is_object(text, table, i), 8, text, table, i, best);
     };
     best
@@ -88,24 +85,16 @@ fn three(text: &[u8], table: &[u32], i: usize, best: u32) -> u32
     unless(nodes::count(text, table, i) == 3, 12, text, table, i, best)
 }
 
-// A transform number: its pair, or the fault of rule 13.
-#[derive(Drop)]
-pub enum Paired {
-    Pair(i64, i64),
-    Fault(u32),
-}
-
 // The pair of the number at a node, or the fault of rule 13 where it cannot be read as one.
-pub fn pair(text: &[u8], table: &[u32], i: usize) -> Paired
+pub fn pair(text: &[u8], table: &[u32], i: usize) -> Result<(i64, i64), u32>
     requires { (Node text.now table.now i) × (Gives is_number_value text.now table.now i true) }
     ensures { GivesPair text.now table.now i result }
 {
     let from = nodes::start(table, i);
-    let answer = numerals::pair(text, from, nodes::end(table, i));
-    let Numeral::Pair(m, e) = answer else {
-        return Paired::Fault(nodes::fault_at(13, from));
+    let Some(pair) = numerals::pair(text, from, nodes::end(table, i)) else {
+        return Err(nodes::fault_at(13, from));
     };
-    Paired::Pair(m, e)
+    Ok(pair)
 }
 
 // Rule 13: a transform number is a pair in range.
@@ -116,10 +105,9 @@ fn pair_range(text: &[u8], table: &[u32], i: usize, best: u32) -> u32
     if !nodes::is_number(text, table, i) {
         return best;
     }
-    let answer = pair(text, table, i);
-    match answer {
-        Paired::Pair(_, _) => best,
-        Paired::Fault(fault) => nodes::lesser(best, fault),
+    match pair(text, table, i) {
+        Ok(_) => best,
+        Err(fault) => nodes::lesser(best, fault),
     }
 }
 
@@ -128,16 +116,10 @@ fn entries(text: &[u8], table: &[u32], i: usize, best: u32) -> u32
     requires { Node text.now table.now i }
     ensures { Gives (λ v. least best (each_element number_kind v ++ each_element pair_range v)) text.now table.now i result }
 {
-    if !nodes::is_array(text, table, i) {
-        return best;
-    }
-    let n = nodes::next(table, i);
     let mut least = best;
-    let mut k = i + 3;
-    while k < n {
+    for k in nodes::elements(text, table, i) {
         least = number(text, table, k, least);
         least = pair_range(text, table, k, least);
-        k = nodes::next(table, k);
     }
     least
 }
@@ -155,16 +137,13 @@ pub fn three_pairs(text: &[u8], table: &[u32], i: usize, best: u32) -> u32
 
 // Are all elements of an array integers?
 fn all_integers(text: &[u8], table: &[u32], i: usize) -> bool
-    requires { (Node text.now table.now i) × (Gives is_array_value text.now table.now i true) }
+    requires { Node text.now table.now i }
     ensures { Gives (λ v. all_integers (elements v)) text.now table.now i result }
 {
-    let n = nodes::next(table, i);
-    let mut k = i + 3;
-    while k < n {
+    for k in nodes::elements(text, table, i) {
         if !is_integer(text, table, k) {
             return false;
         }
-        k = nodes::next(table, k);
     }
     true
 }
@@ -203,15 +182,12 @@ fn coordinate(text: &[u8], table: &[u32], i: usize, best: u32) -> u32
 
 // The coordinates of a vertex.
 fn coordinates(text: &[u8], table: &[u32], i: usize, best: u32) -> u32
-    requires { (Node text.now table.now i) × (Gives is_array_value text.now table.now i true) }
+    requires { Node text.now table.now i }
     ensures { Gives (λ v. least best (each_element shape.coordinate v)) text.now table.now i result }
 {
-    let n = nodes::next(table, i);
     let mut least = best;
-    let mut k = i + 3;
-    while k < n {
+    for k in nodes::elements(text, table, i) {
         least = coordinate(text, table, k, least);
-        k = nodes::next(table, k);
     }
     least
 }
@@ -266,15 +242,9 @@ pub fn vertices(text: &[u8], table: &[u32], i: usize, best: u32) -> u32
     requires { Node text.now table.now i }
     ensures { Gives (λ v. least best (array_kind v ++ each_element shape.vertex v)) text.now table.now i result }
 {
-    if !nodes::is_array(text, table, i) {
-        return array(text, table, i, best);
-    }
-    let n = nodes::next(table, i);
-    let mut least = best;
-    let mut k = i + 3;
-    while k < n {
+    let mut least = array(text, table, i, best);
+    for k in nodes::elements(text, table, i) {
         least = vertex(text, table, k, least);
-        k = nodes::next(table, k);
     }
     least
 }

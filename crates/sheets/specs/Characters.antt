@@ -6,7 +6,6 @@ use Rattle.std.proofs.Math.Option as option
 use Rattle.utf8.specs.Utf8.{Whole}
 use Rattle.strings.specs.Strings.{decode}
 use Rattle.json_text.specs.Tree.{Name}
-use Rattle.nodes.specs.Access.{listed}
 use Rattle.model.specs.Code.{All}
 use Rattle.model.specs.Model.{Surface, added, Semantics, Object, Model}
 use Rattle.model.specs.Model as model

@@ -1,38 +1,33 @@
 -- What a backslash begins, and a step of the cursor, from what the code's tests and calls say.
-use Prim.Native.Nat.{ℕ, ◌+◌, ◌-◌, ◌*◌, ◌/◌, ◌%◌, ◌≤◌, ◌<◌}
+use Prim.Native.Nat.{ℕ, ◌+◌, ◌-◌, ◌≤◌, ◌<◌}
 use native.Mathlib.Omega.{arith}
-use mathlib.Core.Path.{◌≡◌, refl, ◌∙◌}
+use mathlib.Core.Path.{◌≡◌}
 use mathlib.Core.Bool.{false, ◌&&◌}
 use mathlib.Core.List.{List, [], ◌∷◌, ◌++◌}
+use Rattle.std.specs.Prelude.{Option, None, Some}
 use lib.ListN.{get_or}
-use Rattle.utf8.specs.Bytes.{le}
 use Rattle.utf8.specs.Utf8.{encode}
 use Rattle.strings.specs.Strings.{unit, escaped, is_high, paired, alone}
-use Rattle.strings.specs.Spans.{Span, decode_at, ahead, away, Steps}
-use Rattle.strings.specs.Parts.{parts_at, unit_at, low_first, Halves, Escapes, IsShort, IsLong, Spreads}
-use Rattle.strings.specs.declared.Cursor.{Cursor}
-use Rattle.strings.specs.declared.Step.{Step}
-use Rattle.strings.specs.declared.Step.TheVariants.{Byte, Done}
+use Rattle.strings.specs.Spans.{Span, decode_at}
+use Rattle.strings.specs.Parts.{parts_at, unit_at, low_first, Halves, Escapes, IsShort, IsLong}
 use Rattle.strings.specs.declared.Escape.{Escape}
-use Rattle.strings.specs.declared.Escape.TheVariants.{Cut, Short, Long}
-use Rattle.strings.specs.declared.Second.{Second}
-use Rattle.strings.specs.declared.Second.TheVariants.{Half, Missing}
-use Rattle.strings.proofs.Bytes.{high-under, high-over, high_is, low-under, low-over, low-is, alone-over, encode-1, encode-2, encode-3, encode-4, le-1, le-2, le-3, le-some}
-use Rattle.strings.proofs.Pieces.{parts-end, parts-plain, parts_cut, parts-short, parts-few, parts-unit, no-low, not-high, no-low-first, stands-none, places-none, stands-byte, places-byte, stands_unit, places-unit, stands-pair, places-pair}
+use Rattle.strings.specs.declared.Escape.TheVariants.{Short, Long}
+use Rattle.strings.proofs.Bytes.{high-under, high-over, high_is, low-under, low-over, low-is, alone-over}
+use Rattle.strings.proofs.Pieces.{parts-plain, parts_cut, parts-short, parts-few, parts-unit, no-low, not-high, no-low-first, stands-none, places-none, stands-byte, places-byte, stands_unit, places-unit, stands-pair, places-pair}
 
 -- the second half of a pair
 module _ {x : List ℕ} {at end : ℕ} (s : Span x at end) where
-  pub half-few : end - at < 6 → Halves x at end Missing
+  pub half-few : end - at < 6 → Halves x at end None
   unfolding Halves
   half-few h = no-low s h
 
   module _ (l : 6 ≤ end - at) where
-    pub half-plain : (get_or x at 0 ≡ 92 → ⊥) → Halves x at end Missing
+    pub half-plain : (get_or x at 0 ≡ 92 → ⊥) → Halves x at end None
     unfolding Halves low_first
     half-plain n = rw (parts-plain s (omega arith) n)
 
     module _ (e : get_or x at 0 ≡ 92) where
-      pub half-short : (get_or x (at + 1) 0 ≡ 117 → ⊥) → Halves x at end Missing
+      pub half-short : (get_or x (at + 1) 0 ≡ 117 → ⊥) → Halves x at end None
       unfolding Halves low_first
       half-short n = rw (parts-short s e (omega arith) n)
 
@@ -40,15 +35,15 @@ module _ {x : List ℕ} {at end : ℕ} (s : Span x at end) where
         half-here : parts_at x at end ≡ unit at w ∷ parts_at x (at + 6) end
         half-here = rw v (parts-unit s e f (omega arith))
 
-        pub half-under : w < 0xDC00 → Halves x at end Missing
+        pub half-under : w < 0xDC00 → Halves x at end None
         unfolding Halves low_first
         half-under h = rw half-here (low-under w h)
 
-        pub half_over : 0xDFFF < w → Halves x at end Missing
+        pub half_over : 0xDFFF < w → Halves x at end None
         unfolding Halves low_first
         half_over h = rw half-here (low-over w h)
 
-        pub half_is : 0xDC00 ≤ w → w ≤ 0xDFFF → Halves x at end (Half w)
+        pub half_is : 0xDC00 ≤ w → w ≤ 0xDFFF → Halves x at end (Some w)
         unfolding Halves
         half_is a b = record { within = omega arith; least = a; most = b; parts = half-here }
 
@@ -57,24 +52,24 @@ module _ {x : List ℕ} {at end : ℕ} (s : Span x at end) (l : at + 6 ≤ end) 
   unit-here : parts_at x at end ≡ unit at u ∷ parts_at x (at + 6) end
   unit-here = rw v (parts-unit s e f l)
 
-  long-no-pair : (is_high u && low_first (parts_at x (at + 6) end)) ≡ false → Escapes x at end (Long u (at + 6))
+  long-no-pair : (is_high u && low_first (parts_at x (at + 6) end)) ≡ false → Escapes x at end (Some (Long u (at + 6)))
   unfolding Escapes
   long-no-pair n = record { past = omega arith; within = l; small = omega arith; stands = stands_unit x at end u (at + 6) unit-here n; places = places-unit x at end u (at + 6) unit-here n }
 
-  pub long-under : u < 0xD800 → Escapes x at end (Long u (at + 6))
+  pub long-under : u < 0xD800 → Escapes x at end (Some (Long u (at + 6)))
   long-under h = long-no-pair (not-high u _ (high-under u h))
 
-  pub long-over : 0xDBFF < u → Escapes x at end (Long u (at + 6))
+  pub long-over : 0xDBFF < u → Escapes x at end (Some (Long u (at + 6)))
   long-over h = long-no-pair (not-high u _ (high-over u h))
 
-  pub long-missing : (r : Second) → Halves x (at + 6) end r → r ≡ Missing → Escapes x at end (Long u (at + 6))
+  pub long-missing : (r : Option ℕ) → Halves x (at + 6) end r → r ≡ None → Escapes x at end (Some (Long u (at + 6)))
   unfolding Halves
   long-missing r h q = long-no-pair (no-low-first u _ (rw q at h))
 
-  pub long-pair : (r : Second) (w v : ℕ) → 0xD800 ≤ u → u ≤ 0xDBFF → Halves x (at + 6) end r → r ≡ Half w → v ≡ paired u w → Escapes x at end (Long v (at + 12))
+  pub long-pair : (r : Option ℕ) (w v : ℕ) → 0xD800 ≤ u → u ≤ 0xDBFF → Halves x (at + 6) end r → r ≡ Some w → v ≡ paired u w → Escapes x at end (Some (Long v (at + 12)))
   unfolding Halves Escapes paired
   long-pair r w v a b h q z =
-      let k : Halves x (at + 6) end (Half w) = rw q at h in
+      let k : Halves x (at + 6) end (Some w) = rw q at h in
       let two : at + 6 + 6 ≡ at + 12 = omega arith in
       let p : parts_at x (at + 6) end ≡ unit (at + 6) w ∷ parts_at x (at + 12) end = rw two at k.parts in
       let n : alone at (paired u w) ≡ [] = alone-over (paired u w) at (omega arith) in
@@ -87,8 +82,8 @@ module _ {x : List ℕ} {at end : ℕ} (s : Span x at end) (l : at + 6 ≤ end) 
         places = rw n (places-pair x at end u (at + 6) unit-here w (at + 12) p (high_is u a b) (low-is w k.least k.most));
       })
 
-module _ (x : List ℕ) (at end : ℕ) (r : Second) (w : ℕ) (h : Halves x at end r) (q : r ≡ Half w) where
-  half : Halves x at end (Half w)
+module _ (x : List ℕ) (at end : ℕ) (r : Option ℕ) (w : ℕ) (h : Halves x at end r) (q : r ≡ Some w) where
+  half : Halves x at end (Some w)
   half = rw q at h
 
   pub half-least : 0xDC00 ≤ w
@@ -101,29 +96,29 @@ module _ (x : List ℕ) (at end : ℕ) (r : Second) (w : ℕ) (h : Halves x at e
 
 -- any escape
 module _ {x : List ℕ} {at end : ℕ} (s : Span x at end) (e : get_or x at 0 ≡ 92) where
-  cut : parts_at x at end ≡ [] → Escapes x at end Cut
+  cut : parts_at x at end ≡ [] → Escapes x at end None
   unfolding Escapes
   cut p = record { stands = stands-none x at end p; places = places-none x at end p }
 
-  pub cut-two : at < end → end - at < 2 → Escapes x at end Cut
+  pub cut-two : at < end → end - at < 2 → Escapes x at end None
   cut-two l h = cut (parts_cut s e l h)
 
-  pub cut-six : 2 ≤ end - at → get_or x (at + 1) 0 ≡ 117 → end - at < 6 → Escapes x at end Cut
+  pub cut-six : 2 ≤ end - at → get_or x (at + 1) 0 ≡ 117 → end - at < 6 → Escapes x at end None
   cut-six l f h = cut (parts-few s e f (omega arith) h)
 
-  pub short-is : (b : ℕ) → 2 ≤ end - at → (get_or x (at + 1) 0 ≡ 117 → ⊥) → b ≡ escaped (get_or x (at + 1) 0) → Escapes x at end (Short b)
+  pub short-is : (b : ℕ) → 2 ≤ end - at → (get_or x (at + 1) 0 ≡ 117 → ⊥) → b ≡ escaped (get_or x (at + 1) 0) → Escapes x at end (Some (Short b))
   unfolding Escapes
   short-is b l n q =
       let p : parts_at x at end ≡ _ = parts-short s e (omega arith) n in
       rw q (record { within = omega arith; stands = stands-byte x at end _ (at + 2) p; places = places-byte x at end _ (at + 2) p })
 
 -- what is told of an escape, by its kind
-module _ {x : List ℕ} {at end : ℕ} (s : Span x at end) (r : Escape) (h : Escapes x at end r) where
-  pub cut_stands : r ≡ Cut → decode_at x at end ≡ []
+module _ {x : List ℕ} {at end : ℕ} (s : Span x at end) (r : Option Escape) (h : Escapes x at end r) where
+  pub cut_stands : r ≡ None → decode_at x at end ≡ []
   unfolding Escapes
   cut_stands q = (rw q at h).stands
 
-  module _ (b : ℕ) (q : r ≡ Short b) where
+  module _ (b : ℕ) (q : r ≡ Some (Short b)) where
     pub is-short : IsShort x at end b
     unfolding Escapes
     is-short = rw q at h
@@ -137,7 +132,7 @@ module _ {x : List ℕ} {at end : ℕ} (s : Span x at end) (r : Escape) (h : Esc
     pub short-within : at + 2 ≤ end
     short-within = is-short.within
 
-  module _ (u to : ℕ) (q : r ≡ Long u to) where
+  module _ (u to : ℕ) (q : r ≡ Some (Long u to)) where
     pub is-long : IsLong x at end u to
     unfolding Escapes
     is-long = rw q at h
@@ -156,69 +151,3 @@ module _ {x : List ℕ} {at end : ℕ} (s : Span x at end) (r : Escape) (h : Esc
 
     pub long-small : u < 0x110000
     long-small = is-long.small
-
--- a character in parts
-abbrev pub cursor : ℕ → ℕ → ℕ → ℕ → Cursor
-cursor at end word left = record { at = at; end = end; word = word; left = left }
-
-module _ (u at end : ℕ) where
-  pub spread-1 : u < 0x80 → Spreads u at end (Byte u (cursor at end 0 0))
-  unfolding Spreads le
-  spread-1 h = record { bytes = encode-1 u h; few = omega arith; from = refl; till = refl }
-
-  module _ (a : ℕ) (p : a ≡ 0x80 + u % 64) where
-    pub spread-2 : 0x80 ≤ u → u < 0x800 → Spreads u at end (Byte (0xC0 + u / 64) (cursor at end a 1))
-    unfolding Spreads
-    spread-2 l h = rw p (record { bytes = rw (le-1 (0x80 + u % 64) 0 0 (omega arith) (omega arith) (omega arith)) (encode-2 u l h); few = omega arith; from = refl; till = refl })
-
-    module _ (b : ℕ) (q : b ≡ 0x80 + u / 64 % 64) where
-      pub spread-3 : 0x800 ≤ u → u < 0x10000 → Spreads u at end (Byte (0xE0 + u / 4096) (cursor at end (b + a * 256) 2))
-      unfolding Spreads
-      spread-3 l h =
-          rw (p, q) (record { bytes = rw (le-2 (0x80 + u % 64) (0x80 + u / 64 % 64) 0 (omega arith) (omega arith) (omega arith)) (encode-3 u l h); few = omega arith; from = refl; till = refl })
-
-      pub spread-4 : (c : ℕ) → c ≡ 0x80 + u / 4096 % 64 → 0x10000 ≤ u → Spreads u at end (Byte (0xF0 + u / 262144) (cursor at end (c + b * 256 + a * 65536) 3))
-      unfolding Spreads
-      spread-4 c r l =
-          rw (p, q, r)
-          (record {
-            bytes = rw (le-3 (0x80 + u % 64) (0x80 + u / 64 % 64) (0x80 + u / 4096 % 64) (omega arith) (omega arith) (omega arith)) (encode-4 u l);
-            few = omega arith;
-            from = refl;
-            till = refl;
-          })
-
--- a step where no character is begun
-module _ {x : List ℕ} {at end : ℕ} (s : Span x at end) where
-  pub fresh-done : (n : ℕ) → end ≤ at → Steps x (decode_at x at end) n Done
-  unfolding Steps
-  fresh-done n l = stands-none x at end (parts-end s l)
-
-  pub fresh-plain : at < end → (get_or x at 0 ≡ 92 → ⊥) → Steps x (decode_at x at end) (end - at) (Byte (get_or x at 0) (cursor (at + 1) end 0 0))
-  unfolding Steps ahead le away
-  fresh-plain l n = record { first = stands-byte x at end _ (at + 1) (parts-plain s l n); span = record { low = omega arith; high = s.high }; nearer = omega arith }
-
-  module _ (r : Escape) (h : Escapes x at end r) where
-    pub fresh-cut : (n : ℕ) → r ≡ Cut → Steps x (decode_at x at end) n Done
-    unfolding Steps
-    fresh-cut n q = cut_stands s r h q
-
-    pub fresh-short : (b : ℕ) → r ≡ Short b → Steps x (decode_at x at end) (end - at) (Byte b (cursor (at + 2) end 0 0))
-    unfolding Steps ahead le away
-    fresh-short b q = record { first = short-stands s r h b q; span = short-span s r h b q; nearer = omega (arith, short-within s r h b q) }
-
-    pub fresh-long : (u to : ℕ) → r ≡ Long u to → (t : Step) → Spreads u to end t → Steps x (decode_at x at end) (end - at) t
-    unfolding Steps Spreads ahead away
-    fresh-long u to q (Byte b d) g =
-        let k : IsLong x at end u to = is-long s r h u to q in
-        record { first = k.stands ∙ rw (g.bytes, g.from, g.till); span = rw (g.from, g.till) (long-span s r h u to q); nearer = omega (arith, k.within, k.past, g.few, g.from, g.till) }
-    fresh-long u to q Done g = absurd g
-
--- a step
-pub next-fresh : (x : List ℕ) (c : Cursor) (t : Step) → c.left ≡ 0 → Steps x (decode_at x c.at c.end) (c.end - c.at) t → Steps x (ahead x c) (away c) t
-unfolding ahead away le
-next-fresh x c t e h = rw e (let z : c.end - c.at + 0 ≡ c.end - c.at = omega arith in rw z h)
-
-pub next-begun : (x : List ℕ) (c : Cursor) → Span x c.at c.end → (c.left ≡ 0 → ⊥) → Steps x (ahead x c) (away c) (Byte (c.word % 256) (cursor c.at c.end (c.word / 256) (c.left - 1)))
-unfolding Steps ahead away
-next-begun x c s n = record { first = rw (le-some c.left c.word n); span = s; nearer = omega arith }

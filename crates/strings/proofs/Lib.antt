@@ -2,6 +2,7 @@
 mod Bytes
 mod Pieces
 mod Escapes
+mod Steps
 mod Loops
 mod Scans
 mod Rules

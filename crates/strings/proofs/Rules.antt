@@ -1,16 +1,17 @@
 -- What `search` is handed to close what the functions leave.
 use borrow.Author.Rules.{rules}
-use Rattle.strings.proofs.Bytes.{hex-under, hex-digit, hex-upper, hex-between, hex-lower, unit-is, paired_is, escaped-b, escaped-f, escaped-n, escaped-r, escaped-t, escaped-same, width-1, width-2, width-3, width-4}
-use Rattle.strings.specs.Laws.{onward, at-end, step-done, step-span, step-nearer}
-use Rattle.strings.proofs.Escapes.{half-few, half-plain, half-short, half-under, half_over, half_is, half-least, half-most, long-under, long-over, long-missing, long-pair, cut-two, cut-six, short-is, spread-1, spread-2, spread-3, spread-4, fresh-done, fresh-plain, fresh-cut, fresh-short, fresh-long, cut_stands, short-span, short-within, long-span, long-past, long-less, long-small, next-fresh, next-begun}
-use Rattle.strings.proofs.Loops.{counting-start, counting-end, writing_start, writing-done, copy_start, copy-room, plain-counting, plain-room, plain-writing, step_room, step-writing, short-counting, long-counting, long-counted, found-end, found_plain, found-cut, found-short, found-under, found-over, found_here}
-use Rattle.strings.proofs.Scans.{block-begin, block_more, block-done, from-here, from_more, from-done, has_rest, has_here, has_more, has_room}
+use Rattle.strings.proofs.Bytes.{hex-digit, hex-upper, hex-lower, unit-is, paired_is, escaped-b, escaped-f, escaped-n, escaped-r, escaped-t, escaped-same, encoded-1, encoded-2, encoded-3, encoded-4}
+use Rattle.strings.specs.Laws.{onward}
+use Rattle.strings.proofs.Escapes.{half-few, half-plain, half-short, half-under, half_over, half_is, half-least, half-most, long-under, long-over, long-missing, long-pair, cut-two, cut-six, short-is, short-span, short-within, long-span, long-past, long-less, long-small}
+use Rattle.strings.proofs.Steps.{next-none, next-plain, next-cut, next-short, next-long, begun-next}
+use Rattle.strings.proofs.Scans.{plain_size, plain-room, plain-copied}
+use Rattle.strings.proofs.Loops.{writing_start, writing-done, writing-room, writing_more, found-end, found_plain, found-cut, found-short, found-long, found_here}
 
 -- hexadecimal digits
-pub ruleset digits = (hex-under, hex-digit, hex-upper, hex-between, hex-lower, unit-is, paired_is)
+pub ruleset digits = (hex-digit, hex-upper, hex-lower, unit-is, paired_is)
 
--- what an escape of two bytes stands for, and how many bytes a character is written as
-pub ruleset shorts = (escaped-b, escaped-f, escaped-n, escaped-r, escaped-t, escaped-same, width-1, width-2, width-3, width-4)
+-- what an escape of two bytes stands for
+pub ruleset shorts = (escaped-b, escaped-f, escaped-n, escaped-r, escaped-t, escaped-same)
 
 -- the second half of a pair
 pub ruleset halves = (half-few, half-plain, half-short, half-under, half_over, half_is, half-least, half-most)
@@ -18,23 +19,19 @@ pub ruleset halves = (half-few, half-plain, half-short, half-under, half_over, h
 -- an escape
 pub ruleset longs = (long-under, long-over, long-missing, long-pair, cut-two, cut-six, short-is, long-small)
 
+-- how a character is written
+pub ruleset characters = (encoded-1, encoded-2, encoded-3, encoded-4)
+
+pub ruleset strings = (rules, digits, shorts, halves, longs, characters)
+
+-- what stands after an escape
+pub ruleset onwards = (onward, short-span, short-within, long-span, long-past, long-less, long-small)
+
 -- the next byte
-pub ruleset steps = (spread-1, spread-2, spread-3, spread-4, fresh-done, fresh-plain, fresh-cut, fresh-short, fresh-long, next-fresh, next-begun)
-
-pub ruleset strings = (rules, digits, shorts, halves, longs, steps)
-
--- where a loop goes on
-pub ruleset cursors = (at-end, onward, step-done, step-span, step-nearer, cut_stands, short-span, short-within, long-span, long-past, long-less)
-
--- a count
-pub ruleset counts = (counting-start, counting-end, plain-counting, short-counting, long-counting, long-counted)
+pub ruleset steps = (rules, onwards, next-none, next-plain, next-cut, next-short, next-long, begun-next)
 
 -- a copy
-pub ruleset copies = (writing_start, writing-done, copy_start, copy-room, plain-room, plain-writing, step_room, step-writing)
+pub ruleset copies = (rules, plain_size, plain-room, plain-copied, writing_start, writing-done, writing-room, writing_more)
 
--- a search
-pub ruleset finds = (found-end, found_plain, found-cut, found-short, found-under, found-over, found_here)
-
-pub ruleset turns = (rules, cursors, counts, copies, finds)
-
-pub ruleset scans = (rules, onward, block-begin, block_more, block-done, from-here, from_more, from-done, has_rest, has_here, has_more, has_room)
+-- where a search for an unpaired surrogate goes on
+pub ruleset finds = (rules, onwards, found-end, found_plain, found-cut, found-short, found-long, found_here)

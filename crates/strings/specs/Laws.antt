@@ -1,20 +1,20 @@
 -- Laws of decoding: where a string stands does not change what it stands for; it stands for no more bytes than it has; strings that begin apart do not
 -- stand for the same bytes; the places of its unpaired surrogates are in increasing order, and there are none where no byte is a backslash.
-use Rattle.std.specs.Prelude.{ℕ, zero, suc, ◌+◌, ◌-◌, ◌*◌, ◌≤◌, ◌<◌, ◌≡◌, refl, Bool, true, false, cond, not, ◌&&◌, ◌||◌, length, get_or, take, drop, eqb, leb, ltb}
+use Rattle.std.specs.Prelude.{ℕ, zero, suc, ◌+◌, ◌-◌, ◌*◌, ◌≤◌, ◌<◌, ◌≡◌, refl, Bool, true, false, cond, not, ◌&&◌, ◌||◌, None, Some, ⊤, length, get_or, take, drop, eqb, leb, ltb}
 use Rattle.std.proofs.Common.{add-one, arith, sym, ◌∙◌, subst, ⊎_elim, length-append, take-append-drop, drop_of_length-le, length-take-le, ltb-true, ne_eqb}
 use Rattle.std.proofs.Math.Path.{ap}
 use mathlib.Core.List.Memᴰ
 use mathlib.Core.List.{List, [], ◌∷◌, ◌++◌, append-nil, Memᴰ}
 use Rattle.std.proofs.Math.Seq.{slice, slice-cons, length-slice}
 use Rattle.std.proofs.lemmas.Bool.{not-true, eqb-false}
+use Rattle.std.proofs.lemmas.List.{drop-take}
+use Rattle.std.specs.Iterator.{YieldsFirst, MakesProgress, at_most}
 use Rattle.utf8.specs.Bytes.{le}
 use Rattle.utf8.specs.Utf8.{encode, same}
 use Rattle.utf8.specs.Laws.{clash, both_left, both_right, neither}
-use Rattle.strings.specs.Spans.{Span, decode_at, unpaired_at, ahead, away, Hands, Steps, first_of, has_byte, begin_apart}
-use Rattle.strings.specs.declared.Cursor.{Cursor}
-use Rattle.strings.specs.declared.Step.{Step}
-use Rattle.strings.specs.declared.Step.TheVariants.{Byte, Done}
-use Rattle.strings.specs.declared.Found.TheVariants.{At}
+use Rattle.strings.specs.Spans.{Span, decode_at, unpaired_at, first_of, has_byte, begin_apart}
+use Rattle.strings.specs.Ahead.{ahead, away}
+use Rattle.strings.specs.declared.decoder.Decoder.{Decoder}
 use Rattle.strings.specs.Strings.{Piece, byte, unit, Mark, plain, slash, hex, hex_value, escaped, next, ended, pieces, is_high, is_low, paired, decoded, decode, alone, unpaired, unpaired_from}
 
 -- the pieces with no places
@@ -133,7 +133,7 @@ unfolding decode_at
 decode_at-short x at end h = omega (arith, decode-short (slice at end x), length-slice at end x h)
 
 -- what a string stands for, by the byte at its start
-plain_byte : (b : ℕ) (s : List ℕ) → (b ≡ 92 → ⊥) → decode (b ∷ s) ≡ b ∷ decode s
+pub plain_byte : (b : ℕ) (s : List ℕ) → (b ≡ 92 → ⊥) → decode (b ∷ s) ≡ b ∷ decode s
 unfolding decode pieces ended next decoded
 plain_byte b s n = rw (ne_eqb b 92 n, decoded-anywhere 1 0 s)
 
@@ -154,6 +154,10 @@ module _ {x : List ℕ} {at end : ℕ} (s : Span x at end) where
   pub at-end : end ≤ at → decode_at x at end ≡ []
   unfolding decode_at decode pieces decoded
   at-end l = ap decode (no_byte l)
+
+-- the bytes of a string, as code takes them out of the text
+pub taken : {x : List ℕ} {at end : ℕ} → Span x at end → take (end - at) (drop at x) ≡ slice at end x
+taken {x} {at} {end} s = let e : at + (end - at) ≡ end = omega (arith, s.low) in sym (drop-take at (end - at) x) ∙ rw e
 
 -- the same, where the tests are Booleans
 first-stands : {x : List ℕ} {at end : ℕ} → Span x at end → ltb at end ≡ true → not (eqb (get_or x at 0) 92) ≡ true
@@ -177,30 +181,24 @@ apart-differ {x} {at} {end} {at2} {end2} s t q =
     let z = each (ltb at end) (ltb at2 end2) (not (eqb a b)) (not (eqb a 92)) (not (eqb b 92)) q in
     rw (first-stands s z.0 z.3, first-stands t z.1 z.4, not-true (eqb a b) z.2)
 
--- what a step tells
-module _ (x l : List ℕ) (n : ℕ) (s : Step) (h : Steps x l n s) where
-  pub step-done : s ≡ Done → l ≡ []
-  unfolding Steps
-  step-done q = rw q at h
+-- what a call of a decoder's `next` tells, from s to t
+module _ (s t : Decoder) where
+  pub step-done : YieldsFirst ahead s None t → ahead s ≡ []
+  step-done h = h.0
 
-  module _ (b : ℕ) (d : Cursor) (q : s ≡ Byte b d) where
-    hands : Hands x l n b d
-    unfolding Steps
-    hands = rw q at h
+  pub step-byte : (b : ℕ) → YieldsFirst ahead s (Some b) t → ahead s ≡ b ∷ ahead t
+  step-byte b h = h
 
-    pub step-byte : l ≡ b ∷ ahead x d
-    step-byte = hands.first
+  pub step-nearer : (b : ℕ) → MakesProgress (λ _. ⊤) (λ d. at_most (away d)) s (Some b) t → away t < away s
+  step-nearer b h = (h.on tt).2
 
-    pub step-span : Span x d.at d.end
-    step-span = hands.span
+pub step-span : (t : Decoder) → Span t.text.now t.at t.end
+step-span t = t.span
 
-    pub step-nearer : away d < n
-    step-nearer = hands.nearer
-
--- a cursor with no character begun has ahead what its part of the text stands for
-pub ahead-start : (x : List ℕ) (at end word : ℕ) → ahead x (record { at = at; end = end; word = word; left = 0 }) ≡ decode_at x at end
+-- a decoder with no character begun has ahead what its part of the text stands for
+pub ahead-start : (d : Decoder) → d.left ≡ 0 → ahead d ≡ decode_at d.text.now d.at d.end
 unfolding ahead le
-ahead-start x at end word = refl
+ahead-start d e = rw e
 
 -- places in increasing order, the first at n or later, the last before e
 unfoldable pub Rising : ℕ → ℕ → List ℕ → Type 0
@@ -298,13 +296,13 @@ first-least n raw p ps f q m =
     let r : Rising n (n + length raw) (p ∷ ps) = subst (Rising n (n + length raw)) f (unpaired-rising n raw) in
     (rising-member p (n + length raw) (p ∷ ps) (omega arith, r.1, r.2) q m).0
 
-first-within : (n e p : ℕ) (ps : List ℕ) → Rising n e ps → first_of ps ≡ At p → (n ≤ p) × (p < e)
+first-within : (n e p : ℕ) (ps : List ℕ) → Rising n e ps → first_of ps ≡ Some p → (n ≤ p) × (p < e)
 unfolding Rising first_of
 first-within n e p [] r f = clash cc
 first-within n e p (q ∷ ps) r f = let z : p ≡ q = cc in (omega (arith, r.0), omega (arith, r.1))
 
 -- the place that is found lies in the string
-pub found_within : (x : List ℕ) (at end p : ℕ) → Span x at end → first_of (unpaired_at x at end) ≡ At p → (at ≤ p) × (p < end)
+pub found_within : (x : List ℕ) (at end p : ℕ) → Span x at end → first_of (unpaired_at x at end) ≡ Some p → (at ≤ p) × (p < end)
 unfolding unpaired_at
 found_within x at end p s f =
     let k : (at ≤ p) × (p < at + length (slice at end x)) = first-within at (at + length (slice at end x)) p _ (unpaired-rising at (slice at end x)) f in
@@ -332,3 +330,13 @@ pub unpaired-plain : (n : ℕ) (raw : List ℕ) → has_byte 92 raw ≡ false �
 unfolding has_byte unpaired_from pieces ended next unpaired
 unpaired-plain n [] q = refl
 unpaired-plain n (b ∷ raw) q = let z = neither (eqb b 92) (has_byte 92 raw) q in rw z.0 (unpaired-plain (n + 1) raw z.1)
+
+-- and stands for its own bytes
+pub decode-plain : (raw : List ℕ) → has_byte 92 raw ≡ false → decode raw ≡ raw
+unfolding has_byte decode pieces decoded
+decode-plain [] q = refl
+decode-plain (b ∷ raw) q = let z = neither (eqb b 92) (has_byte 92 raw) q in plain_byte b raw (eqb-false b 92 z.0) ∙ ap (λ (l : List ℕ). b ∷ l) (decode-plain raw z.1)
+
+pub decode_at-plain : {x : List ℕ} {at end : ℕ} → Span x at end → has_byte 92 (take (end - at) (drop at x)) ≡ false → decode_at x at end ≡ take (end - at) (drop at x)
+unfolding decode_at
+decode_at-plain {x} {at} {end} s q = rw (taken s) (decode-plain (slice at end x) (rw (taken s) at q))

@@ -2,5 +2,6 @@
 pub mod Strings
 pub mod Spans
 pub mod Parts
+pub mod Ahead
 pub mod Laws
 pub mod Characters

@@ -1,17 +1,11 @@
--- What the inner functions tell: of the escape at an offset, and of the bytes of a character.
-use Rattle.std.specs.Prelude.{ℕ, ◌+◌, ◌*◌, ◌≤◌, ◌<◌, ◌≡◌, Bool, false, List, [], ◌∷◌, ◌++◌, get_or}
+-- What the inner functions tell of the escape at an offset.
+use Rattle.std.specs.Prelude.{ℕ, ◌+◌, ◌*◌, ◌≤◌, ◌<◌, ◌≡◌, Bool, false, List, [], ◌∷◌, ◌++◌, Option, Some, None, get_or}
 use Rattle.std.proofs.Math.Seq.{slice}
-use Rattle.utf8.specs.Bytes.{le}
 use Rattle.utf8.specs.Utf8.{encode}
 use Rattle.strings.specs.Strings.{Piece, byte, unit, plain, pieces, hex_value, is_low, alone}
 use Rattle.strings.specs.Spans.{decode_at, unpaired_at}
-use Rattle.strings.specs.declared.Cursor.{Cursor}
-use Rattle.strings.specs.declared.Step.{Step}
-use Rattle.strings.specs.declared.Step.TheVariants.{Byte, Done}
 use Rattle.strings.specs.declared.Escape.{Escape}
-use Rattle.strings.specs.declared.Escape.TheVariants.{Cut, Short, Long}
-use Rattle.strings.specs.declared.Second.{Second}
-use Rattle.strings.specs.declared.Second.TheVariants.{Half, Missing}
+use Rattle.strings.specs.declared.Escape.TheVariants.{Short, Long}
 
 -- the number that the four hexadecimal digits from at on name
 unfoldable pub unit_at : List ℕ → ℕ → ℕ
@@ -38,9 +32,9 @@ pub record IsHalf (x : List ℕ) (at end w : ℕ) : Type 0 where
   pub parts : parts_at x at end ≡ unit at w ∷ parts_at x (at + 6) end
 
 -- what is told of the second half of a pair at at
-unfoldable pub Halves : List ℕ → ℕ → ℕ → Second → Type 0
-Halves x at end (Half w) = IsHalf x at end w
-Halves x at end Missing = low_first (parts_at x at end) ≡ false
+unfoldable pub Halves : List ℕ → ℕ → ℕ → Option ℕ → Type 0
+Halves x at end (Some w) = IsHalf x at end w
+Halves x at end None = low_first (parts_at x at end) ≡ false
 
 -- an escape of two bytes stands at at, for the byte b
 pub record IsShort (x : List ℕ) (at end b : ℕ) : Type 0 where
@@ -62,19 +56,7 @@ pub record IsCut (x : List ℕ) (at end : ℕ) : Type 0 where
   pub places : unpaired_at x at end ≡ []
 
 -- what a backslash at at begins
-unfoldable pub Escapes : List ℕ → ℕ → ℕ → Escape → Type 0
-Escapes x at end Cut = IsCut x at end
-Escapes x at end (Short b) = IsShort x at end b
-Escapes x at end (Long u to) = IsLong x at end u to
-
--- the bytes of a character: the first is handed out, the others are still to come from d, which goes on at the offset at
-pub record IsSpread (u at end b : ℕ) (d : Cursor) : Type 0 where
-  pub bytes : encode u ≡ b ∷ le d.left d.word
-  pub few : d.left ≤ 3
-  pub from : d.at ≡ at
-  pub till : d.end ≡ end
-
--- what is told of the bytes of the character u
-unfoldable pub Spreads : ℕ → ℕ → ℕ → Step → Type 0
-Spreads u at end (Byte b d) = IsSpread u at end b d
-Spreads u at end Done = ⊥
+unfoldable pub Escapes : List ℕ → ℕ → ℕ → Option Escape → Type 0
+Escapes x at end None = IsCut x at end
+Escapes x at end (Some (Short b)) = IsShort x at end b
+Escapes x at end (Some (Long u to)) = IsLong x at end u to

@@ -1,14 +1,8 @@
 -- What the public functions tell of a string of a text. A string is given by the text x and two offsets: at, just after its opening quote, and end, its
 -- closing quote.
-use Rattle.std.specs.Prelude.{ℕ, ◌+◌, ◌-◌, ◌≤◌, ◌<◌, ◌≡◌, Bool, false, not, ◌&&◌, ◌||◌, List, [], ◌∷◌, ◌++◌, length, get_or, take, drop, eqb, ltb}
+use Rattle.std.specs.Prelude.{ℕ, ◌+◌, ◌≤◌, ◌≡◌, Bool, false, not, ◌&&◌, ◌||◌, List, [], ◌∷◌, ◌++◌, Option, Some, None, length, get_or, take, drop, eqb, ltb}
 use Rattle.std.proofs.Math.Seq.{slice}
-use Rattle.utf8.specs.Bytes.{le}
 use Rattle.strings.specs.Strings.{decode, unpaired_from}
-use Rattle.strings.specs.declared.Cursor.{Cursor}
-use Rattle.strings.specs.declared.Step.{Step}
-use Rattle.strings.specs.declared.Step.TheVariants.{Byte, Done}
-use Rattle.strings.specs.declared.Found.{Found}
-use Rattle.strings.specs.declared.Found.TheVariants.{At, Nothing}
 
 -- the offsets lie in the text, in order
 pub record Span (x : List ℕ) (at end : ℕ) : Type 0 where
@@ -25,35 +19,15 @@ unfoldable pub unpaired_at : List ℕ → ℕ → ℕ → List ℕ
 unfolding unpaired_from
 unpaired_at x at end = unpaired_from at (slice at end x)
 
--- the bytes that a cursor is still to hand out: those of a character that is begun, then what its part of the text stands for
-unfoldable pub ahead : List ℕ → Cursor → List ℕ
-unfolding le decode_at
-ahead x c = le c.left c.word ++ decode_at x c.at c.end
-
--- how far a cursor is from its end; falls with each byte that is handed out
-unfoldable pub away : Cursor → ℕ
-away c = (c.end - c.at) + c.left
-
--- the byte b is handed out, and d is the cursor after it: the bytes l are b and those that d has ahead, and d is less than n away from its end
-pub record Hands (x l : List ℕ) (n b : ℕ) (d : Cursor) : Type 0 where
-  pub first : l ≡ b ∷ ahead x d
-  pub span : Span x d.at d.end
-  pub nearer : away d < n
-
--- what a step tells, where the bytes l are to be handed out: the first and a cursor for the others, or that there is none
-unfoldable pub Steps : List ℕ → List ℕ → ℕ → Step → Type 0
-Steps x l n (Byte b d) = Hands x l n b d
-Steps x l n Done = l ≡ []
-
 -- what a writer tells: the bytes ws stand in d from to on and end at r, and the other bytes are those of d₀
 pub record Copied (ws d₀ d : List ℕ) (to r : ℕ) : Type 0 where
   pub answer : r ≡ to + length ws
   pub contents : d ≡ take to d₀ ++ ws ++ drop (to + length ws) d₀
 
--- the first of some places
-unfoldable pub first_of : List ℕ → Found
-first_of [] = Nothing
-first_of (p ∷ ps) = At p
+-- the first of some places, if there is one
+unfoldable pub first_of : List ℕ → Option ℕ
+first_of [] = None
+first_of (p ∷ ps) = Some p
 
 -- is one of the bytes b?
 unfoldable pub has_byte : ℕ → List ℕ → Bool

@@ -1,77 +1,34 @@
 // Strings of JSON texts (RFC 8259, section 7). A string is given by the text and two offsets: `at`, just after its opening quote, and `end`, its closing quote.
 #![tactic(auto)]
 
-ghost use Rattle.std.specs.Prelude.{◌+◌, ◌-◌, ◌%◌, ◌≤◌, ◌<◌, ◌≡◌, length, drop, get_or};
-ghost use Rattle.std.proofs.Math.Seq.{slice};
+ghost use Rattle.std.specs.Prelude.{◌+◌, ◌-◌, ◌%◌, ◌≤◌, ◌<◌, ◌≡◌, ◌&&◌, length, get_or, leb, Some};
+ghost use Rattle.utf8.specs.Bytes.{le};
 ghost use Rattle.utf8.specs.Utf8.{encode};
 ghost use Rattle.strings.specs.Strings.{hex_value, escaped, paired};
-ghost use Rattle.strings.specs.Spans.{Span, decode_at, unpaired_at, ahead, away, Steps, Copied, first_of, has_byte};
-ghost use Rattle.strings.specs.Parts.{unit_at, Halves, Escapes, Spreads};
+ghost use Rattle.strings.specs.Spans.{Span, decode_at, unpaired_at, Copied, first_of, has_byte};
+ghost use Rattle.strings.specs.Parts.{unit_at, Halves, Escapes};
 
-// A place in a string that is being decoded. `word` holds the bytes of a character that are still to be handed out, the next one in its lowest eight
-// bits, and `left` how many they are.
-#[derive(Drop)]
-pub struct Cursor {
-    pub at: usize,
-    pub end: usize,
-    pub word: u32,
-    pub left: u32,
-}
+mod decoder;
 
-// A byte and the cursor after it, or the end of the string.
-#[derive(Drop)]
-pub enum Step {
-    Byte(u8, Cursor),
-    Done,
-}
+pub use decoder::Decoder;
 
-// A place, or none.
-#[derive(Drop)]
-pub enum Found {
-    At(usize),
-    Nothing,
-}
-
-// What a backslash begins: nothing whole before the string ends; an escape of two bytes, for a byte; \uXXXX or a pair of them, for a character, up to an
-// offset.
+// An escape: of two bytes, for a byte; or \uXXXX or a pair of them, for a character, up to an offset.
 #[derive(Drop)]
 enum Escape {
-    Cut,
     Short(u8),
     Long(u32, usize),
-}
-
-// The second half of a pair of surrogates, or none.
-#[derive(Drop)]
-enum Second {
-    Half(u32),
-    Missing,
-}
-
-// A byte as a wider number.
-fn wide(b: u8) -> u32
-    ensures { result ≡ b }
-{
-    b as u32
 }
 
 // The value of a hexadecimal digit.
 fn hex_value(b: u8) -> u32
     ensures { (result ≡ hex_value b) × (result ≤ 168) }
 {
-    if b < b'0' {
-        return 0;
+    let n = u32::from(b);
+    match b {
+        ..=b'9' => n.saturating_sub(48),
+        ..=b'F' => n - 55,
+        _ => n.saturating_sub(87),
     }
-    if b <= b'9' {
-        return wide(b) - 48;
-    }
-    if b <= b'F' {
-        return wide(b) - 55;
-    }
-    if b < 87 {
-        return 0;
-    }
-    wide(b) - 87
 }
 
 // The number that the four hexadecimal digits at `at` name.
@@ -100,28 +57,18 @@ fn short(b: u8) -> u8
     }
 }
 
-// The low surrogate whose escape \uXXXX stands at `at`.
-fn low_at(text: &[u8], at: usize, end: usize) -> Second
+// The low surrogate whose escape \uXXXX stands at `at`, if one does.
+fn low_at(text: &[u8], at: usize, end: usize) -> Option<u32>
     requires { Span text.now at end }
     ensures { Halves text.now at end result }
 {
-    if end - at < 6 {
-        return Second::Missing;
+    if end - at < 6 || text[at] != b'\\' || text[at + 1] != b'u' {
+        return None;
     }
-    if text[at] != b'\\' {
-        return Second::Missing;
+    match four_digits(text, at + 2) {
+        w @ 0xDC00..=0xDFFF => Some(w),
+        _ => None,
     }
-    if text[at + 1] != b'u' {
-        return Second::Missing;
-    }
-    let w = four_digits(text, at + 2);
-    if w < 0xDC00 {
-        return Second::Missing;
-    }
-    if w > 0xDFFF {
-        return Second::Missing;
-    }
-    Second::Half(w)
 }
 
 // The character that a high and a low surrogate name.
@@ -135,38 +82,35 @@ fn pair(u: u32, w: u32) -> u32
 // The character that the whole escape \uXXXX at `at` names, together with the low surrogate after a high one.
 fn character(text: &[u8], at: usize, end: usize) -> Escape
     requires { (Span text.now at end) × (at + 6 ≤ end) × (get_or text.now at 0 ≡ 92) × (get_or text.now (at + 1) 0 ≡ 117) }
-    ensures { Escapes text.now at end result }
+    ensures { Escapes text.now at end (Some result) }
 {
     let u = four_digits(text, at + 2);
-    if u < 0xD800 {
+    if u < 0xD800 || u > 0xDBFF {
         return Escape::Long(u, at + 6);
     }
-    if u > 0xDBFF {
-        return Escape::Long(u, at + 6);
+    match low_at(text, at + 6, end) {
+        Some(w) => Escape::Long(pair(u, w), at + 12),
+        None => Escape::Long(u, at + 6),
     }
-    let s = low_at(text, at + 6, end);
-    let Second::Half(w) = s else {
-        return Escape::Long(u, at + 6);
-    };
-    Escape::Long(pair(u, w), at + 12)
 }
 
-// The escape whose backslash stands at `at`.
-fn escape_at(text: &[u8], at: usize, end: usize) -> Escape
+// The escape whose backslash stands at `at`, if the string has the whole of it.
+#[inline(never)]
+fn escape_at(text: &[u8], at: usize, end: usize) -> Option<Escape>
     requires { (Span text.now at end) × (at < end) × (get_or text.now at 0 ≡ 92) }
     ensures { Escapes text.now at end result }
 {
     if end - at < 2 {
-        return Escape::Cut;
+        return None;
     }
     let b = text[at + 1];
     if b != b'u' {
-        return Escape::Short(short(b));
+        return Some(Escape::Short(short(b)));
     }
     if end - at < 6 {
-        return Escape::Cut;
+        return None;
     }
-    character(text, at, end)
+    Some(character(text, at, end))
 }
 
 // A byte 10xxxxxx with the lowest six bits of `n`.
@@ -176,180 +120,46 @@ fn tail_of(n: u32) -> u32
     0x80 + n % 64
 }
 
-// The first byte of a character, and a cursor with its other bytes.
-fn spread(u: u32, at: usize, end: usize) -> Step
+// The bytes of a character, the first one in the lowest eight bits, and how many they are.
+#[inline(never)]
+fn encoded(u: u32) -> (u32, u32)
     requires { u < 0x110000 }
-    ensures { Spreads u at end result }
+    ensures { (le result.1 result.0 ≡ encode u) × (0 < result.1) × (result.1 ≤ 4) }
 {
     if u < 0x80 {
-        return Step::Byte(
-            u as u8,
-            Cursor {
-                at: at,
-                end: end,
-                word: 0,
-                left: 0,
-            },
-        );
+        return (u, 1);
     }
     let a = tail_of(u);
     if u < 0x800 {
-        return Step::Byte(
-            (0xC0 + u / 64) as u8,
-            Cursor {
-                at: at,
-                end: end,
-                word: a,
-                left: 1,
-            },
-        );
+        return (0xC0 + u / 64 + a * 256, 2);
     }
     let b = tail_of(u / 64);
     if u < 0x10000 {
-        return Step::Byte(
-            (0xE0 + u / 4096) as u8,
-            Cursor {
-                at: at,
-                end: end,
-                word: b + a * 256,
-                left: 2,
-            },
-        );
+        return (0xE0 + u / 4096 + b * 256 + a * 65536, 3);
     }
     let c = tail_of(u / 4096);
-    Step::Byte(
-        (0xF0 + u / 262144) as u8,
-        Cursor {
-            at: at,
-            end: end,
-            word: c + b * 256 + a * 65536,
-            left: 3,
-        },
-    )
+    (0xF0 + u / 262144 + c * 256 + b * 65536 + a * 16777216, 4)
 }
 
-// The next byte, where no character is begun.
-fn fresh(text: &[u8], at: usize, end: usize) -> Step
-    requires { Span text.now at end }
-    ensures { Steps text.now (decode_at text.now at end) (end - at) result }
-{
-    if at >= end {
-        return Step::Done;
-    }
-    let b = text[at];
-    if b != b'\\' {
-        return Step::Byte(
-            b,
-            Cursor {
-                at: at + 1,
-                end: end,
-                word: 0,
-                left: 0,
-            },
-        );
-    }
-    let e = escape_at(text, at, end);
-    match e {
-        Escape::Cut => Step::Done,
-        Escape::Short(s) => Step::Byte(
-            s,
-            Cursor {
-                at: at + 2,
-                end: end,
-                word: 0,
-                left: 0,
-            },
-        ),
-        Escape::Long(u, to) => spread(u, to, end),
-    }
-}
-
-// The next byte of a decoded string.
-pub fn next(text: &[u8], c: Cursor) -> Step
-    requires { Span text.now c.at c.end }
-    ensures { Steps text.now (ahead text.now c) (away c) result }
-{
-    let at = c.at;
-    let end = c.end;
-    let left = c.left;
-    if left == 0 {
-        return fresh(text, at, end);
-    }
-    let w = c.word;
-    Step::Byte(
-        (w % 256) as u8,
-        Cursor {
-            at: at,
-            end: end,
-            word: w / 256,
-            left: left - 1,
-        },
-    )
-}
-
-// How many bytes a character is written as.
-fn width(u: u32) -> usize
-    ensures { (result ≡ length (encode u)) × (result ≤ 4) }
-{
-    if u < 0x80 {
-        return 1;
-    }
-    if u < 0x800 {
-        return 2;
-    }
-    if u < 0x10000 {
-        return 3;
-    }
-    4
-}
-
-// How many bytes the string stands for.
+// How many bytes the string stands for. One with no escape stands for its own.
 pub fn decoded_length(text: &[u8], at: usize, end: usize) -> usize
     requires { Span text.now at end }
     ensures { result ≡ length (decode_at text.now at end) }
 {
-    let mut i = at;
-    let mut n: usize = 0;
-    while i < end {
-        if text[i] != b'\\' {
-            i += 1;
-            n += 1;
-            continue;
-        }
-        let e = escape_at(text, i, end);
-        match e {
-            Escape::Cut => {
-                return n;
-            }
-            Escape::Short(_b) => {
-                i += 2;
-                n += 1;
-            }
-            Escape::Long(u, to) => {
-                i = to;
-                n += width(u);
-            }
-        }
+    if !has_escape(&text[at..end]) {
+        return end - at;
     }
-    n
+    Decoder::new(text, at, end).count()
 }
 
-// Writes the bytes that the cursor has ahead to `out` from `to` on.
-fn copy_ahead(text: &[u8], from: Cursor, out: &mut [u8], to: usize) -> usize
-    requires { (Span text.now from.at from.end) × (to + length (ahead text.now from) ≤ length out.old) }
-    ensures { Copied (ahead text.now from) out.old out.new to result }
+// Writes bytes to `out` from `to` on; where they end.
+fn put(bytes: &[u8], out: &mut [u8], to: usize) -> usize
+    requires { to + length bytes.now ≤ length out.old }
+    ensures { Copied bytes.now out.old out.new to result }
 {
-    let mut c = from;
-    let mut o = to;
-    loop {
-        let s = next(text, c);
-        let Step::Byte(b, d) = s else {
-            return o;
-        };
-        out[o] = b;
-        o += 1;
-        c = d;
-    }
+    let end = to + bytes.len();
+    out[to..end].copy_from_slice(bytes);
+    end
 }
 
 // Writes the bytes that the string stands for to `out` from `to` on; where they end.
@@ -357,32 +167,27 @@ pub fn copy(text: &[u8], at: usize, end: usize, out: &mut [u8], to: usize) -> us
     requires { (Span text.now at end) × (to + length (decode_at text.now at end) ≤ length out.old) }
     ensures { Copied (decode_at text.now at end) out.old out.new to result }
 {
-    let mut i = at;
+    let plain = &text[at..end];
+    if !has_escape(plain) {
+        return put(plain, out, to);
+    }
     let mut o = to;
-    while i < end {
-        let b = text[i];
-        if b == b'\\' {
-            return copy_ahead(
-                text,
-                Cursor {
-                    at: i,
-                    end: end,
-                    word: 0,
-                    left: 0,
-                },
-                out,
-                o,
-            );
-        }
+    for b in Decoder::new(text, at, end) {
         out[o] = b;
-        i += 1;
         o += 1;
     }
     o
 }
 
-// The place of the first escape of a surrogate that is not paired: its backslash.
-pub fn first_unpaired(text: &[u8], at: usize, end: usize) -> Found
+// Is the character that an escape names a surrogate? Then it is not paired.
+fn is_surrogate(u: u32) -> bool
+    ensures { result ≡ leb 0xD800 u && leb u 0xDFFF }
+{
+    matches!(u, 0xD800..=0xDFFF)
+}
+
+// The place of the first escape of a surrogate that is not paired: its backslash. No `for` here: the place goes on by the length of what stands there.
+pub fn first_unpaired(text: &[u8], at: usize, end: usize) -> Option<usize>
     requires { Span text.now at end }
     ensures { result ≡ first_of (unpaired_at text.now at end) }
 {
@@ -392,67 +197,24 @@ pub fn first_unpaired(text: &[u8], at: usize, end: usize) -> Found
             i += 1;
             continue;
         }
-        let e = escape_at(text, i, end);
-        match e {
-            Escape::Cut => {
-                return Found::Nothing;
-            }
-            Escape::Short(_b) => {
+        match escape_at(text, i, end)? {
+            Escape::Short(_) => {
                 i += 2;
             }
             Escape::Long(u, to) => {
-                if u < 0xD800 {
-                    i = to;
-                    continue;
-                }
-                if u <= 0xDFFF {
-                    return Found::At(i);
+                if is_surrogate(u) {
+                    return Some(i);
                 }
                 i = to;
             }
         }
     }
-    Found::Nothing
-}
-
-// Is one of the 64 bytes from `at` on a backslash? The compiler looks at many of them at once.
-fn escape_in_64(text: &[u8], at: usize) -> bool
-    requires { at + 64 ≤ length text.now }
-    ensures { result ≡ has_byte 92 (slice at (at + 64) text.now) }
-{
-    let mut found = false;
-    let mut k: usize = 0;
-    while k < 64 {
-        found = found | (text[at + k] == b'\\');
-        k += 1;
-    }
-    found
-}
-
-// Is one of the bytes from `at` on a backslash?
-fn escape_from(text: &[u8], at: usize) -> bool
-    ensures { result ≡ has_byte 92 (drop at text.now) }
-{
-    let mut i = at;
-    while i < text.len() {
-        if text[i] == b'\\' {
-            return true;
-        }
-        i += 1;
-    }
-    false
+    None
 }
 
 // Has the text a backslash?
 pub fn has_escape(text: &[u8]) -> bool
     ensures { result ≡ has_byte 92 text.now }
 {
-    let mut i = 0;
-    while text.len() - i >= 64 {
-        if escape_in_64(text, i) {
-            return true;
-        }
-        i += 64;
-    }
-    escape_from(text, i)
+    text.contains(&b'\\')
 }

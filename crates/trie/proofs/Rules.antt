@@ -9,12 +9,11 @@ use lib.Seq.{get_or-set_same, get_or-set_other}
 use lib.Dec.{ltb}
 use borrow.Author.Tests.{ltb-true, ltb-false}
 use borrow.Author.Rules.{rules}
-use Rattle.strings.specs.Spans.{Span, decode_at, ahead, Steps}
-use Rattle.strings.specs.Laws.{onward, at_plain, at-end, step-done, step-byte, step-span, step-nearer, ahead-start}
-use Rattle.strings.specs.declared.Cursor.{Cursor}
-use Rattle.strings.specs.declared.Step.{Step}
-use Rattle.strings.specs.declared.Step.TheVariants.{Byte, Done}
-use Rattle.trie.specs.Trie.{byte_of, value_of, Meets, none, here, next, Child, Reaches, stop, on, Grown, Keeps, Walked, Sought, Walks, Emptied, Puts}
+use Rattle.std.specs.Prelude.{Option, Some, None}
+use Rattle.strings.specs.Spans.{Span, decode_at}
+use Rattle.strings.specs.Laws.{onward, at_plain, at-end}
+use Rattle.trie.specs.declared.Place.{Place}
+use Rattle.trie.specs.Trie.{byte_of, value_of, Meets, none, here, next, Child, Reaches, stop, on, Grown, Keeps, Walked, Sought, Walks, Puts}
 
 -- ---- the search among children
 
@@ -32,21 +31,18 @@ module _ {t : List ℕ} {c b s : ℕ} where
     seek-low h = omega (arith, k.low)
 
     module _ {e : ℕ} (o : e ≡ get_or t q 0) where
-      pub seek-none : e ≡ 0 → Sought t c b s q
-      seek-none z = record { told = λ l. k.goes q (none k.low (sym o ∙ z)) }
+      pub seek-none : e ≡ 0 → Sought t c b s (Some q)
+      seek-none z = record { told = k.goes q (none k.low (sym o ∙ z)) }
 
       module _ (n : e ≡ 0 → ⊥) (l : e < c) {a : ℕ} (i : a ≡ b) where
-        pub seek_found : byte_of t e ≡ a → Sought t c b s q
-        seek_found p = record { told = λ j. k.goes q (here k.low (rw (← o) l) (λ z. n (o ∙ z)) (rw (← o) (p ∙ i))) }
+        pub seek_found : byte_of t e ≡ a → Sought t c b s (Some q)
+        seek_found p = record { told = k.goes q (here k.low (rw (← o) l) (λ z. n (o ∙ z)) (rw (← o) (p ∙ i))) }
 
         pub seek-again : (byte_of t e ≡ a → ⊥) → Seeks t c b s (e * 5 + 1 + m % 2) (m / 2)
         seek-again d =
             record { low = omega arith; goes = λ z p. k.goes z (next k.low (rw (← o) l) (λ z. n (o ∙ z)) (λ y. d (rw o y ∙ sym i)) (rw (← o) p)) }
 
-  pub seek-lost : Sought t c b s (length t)
-  seek-lost = record { told = λ l. absurd (omega arith) }
-
-pub ruleset seeks = (rules, seek-begin, seek-low, seek-none, seek_found, seek-again, seek-lost)
+pub ruleset seeks = (rules, seek-begin, seek-low, seek-none, seek_found, seek-again)
 
 -- ---- one entry more
 
@@ -55,83 +51,6 @@ same_in t i v n l = get_or-set_same t i v 0 (rw n l)
 
 set_room : {m : ℕ} (t : List ℕ) (i v : ℕ) → length t ≡ m → length (set t i v) ≡ m
 set_room t i v n = length-set t i v ∙ n
-
-pub grown : (t : List ℕ) (w c b a : ℕ) → w < c * 5 → c * 5 + 5 ≤ length t → a ≡ b
-    → Grown t (set (set (set (set (set (set t (c * 5) 0) (c * 5 + 1) 0) (c * 5 + 2) 0) (c * 5 + 3) a) (c * 5 + 4) 0) w c) w c b
-grown t w c b a l h q =
-    record {
-      room = set_room t₅ w c r₅;
-      held = same_in t₅ w c r₅ (omega arith);
-      child =
-          past₆ (c * 5) (λ z. omega arith)
-          ∙ (past₅ (c * 5) (λ z. omega arith)
-          ∙ (past₄ (c * 5) (λ z. omega arith) ∙ (past₃ (c * 5) (λ z. omega arith) ∙ (past₂ (c * 5) (λ z. omega arith) ∙ same_in t (c * 5) 0 n (omega arith)))));
-      left =
-          past₆ (c * 5 + 1) (λ z. omega arith)
-          ∙ (past₅ (c * 5 + 1) (λ z. omega arith)
-          ∙ (past₄ (c * 5 + 1) (λ z. omega arith) ∙ (past₃ (c * 5 + 1) (λ z. omega arith) ∙ same_in t₁ (c * 5 + 1) 0 r₁ (omega arith))));
-      right =
-          past₆ (c * 5 + 2) (λ z. omega arith)
-          ∙ (past₅ (c * 5 + 2) (λ z. omega arith) ∙ (past₄ (c * 5 + 2) (λ z. omega arith) ∙ same_in t₂ (c * 5 + 2) 0 r₂ (omega arith)));
-      byte = past₆ (c * 5 + 3) (λ z. omega arith) ∙ (past₅ (c * 5 + 3) (λ z. omega arith) ∙ (same_in t₃ (c * 5 + 3) a r₃ (omega arith) ∙ q));
-      value = past₆ (c * 5 + 4) (λ z. omega arith) ∙ same_in t₄ (c * 5 + 4) 0 r₄ (omega arith);
-      others = λ i k d. past₆ i d ∙ old i k;
-    }
-  where
-    t₁ : List ℕ
-    t₁ = set t (c * 5) 0
-
-    t₂ : List ℕ
-    t₂ = set t₁ (c * 5 + 1) 0
-
-    t₃ : List ℕ
-    t₃ = set t₂ (c * 5 + 2) 0
-
-    t₄ : List ℕ
-    t₄ = set t₃ (c * 5 + 3) a
-
-    t₅ : List ℕ
-    t₅ = set t₄ (c * 5 + 4) 0
-
-    n : length t ≡ length t
-    n = refl
-
-    r₁ : length t₁ ≡ length t
-    r₁ = set_room t (c * 5) 0 n
-
-    r₂ : length t₂ ≡ length t
-    r₂ = set_room t₁ (c * 5 + 1) 0 r₁
-
-    r₃ : length t₃ ≡ length t
-    r₃ = set_room t₂ (c * 5 + 2) 0 r₂
-
-    r₄ : length t₄ ≡ length t
-    r₄ = set_room t₃ (c * 5 + 3) a r₃
-
-    r₅ : length t₅ ≡ length t
-    r₅ = set_room t₄ (c * 5 + 4) 0 r₄
-
-    past₂ : (i : ℕ) → (i ≡ c * 5 + 1 → ⊥) → get_or t₂ i 0 ≡ get_or t₁ i 0
-    past₂ i d = get_or-set_other t₁ (c * 5 + 1) i 0 0 d
-
-    past₃ : (i : ℕ) → (i ≡ c * 5 + 2 → ⊥) → get_or t₃ i 0 ≡ get_or t₂ i 0
-    past₃ i d = get_or-set_other t₂ (c * 5 + 2) i 0 0 d
-
-    past₄ : (i : ℕ) → (i ≡ c * 5 + 3 → ⊥) → get_or t₄ i 0 ≡ get_or t₃ i 0
-    past₄ i d = get_or-set_other t₃ (c * 5 + 3) i a 0 d
-
-    past₅ : (i : ℕ) → (i ≡ c * 5 + 4 → ⊥) → get_or t₅ i 0 ≡ get_or t₄ i 0
-    past₅ i d = get_or-set_other t₄ (c * 5 + 4) i 0 0 d
-
-    past₆ : (i : ℕ) → (i ≡ w → ⊥) → get_or (set t₅ w c) i 0 ≡ get_or t₅ i 0
-    past₆ i d = get_or-set_other t₅ w i c 0 d
-
-    old : (i : ℕ) → i < c * 5 → get_or t₅ i 0 ≡ get_or t i 0
-    old i k =
-        past₅ i (λ z. omega arith)
-        ∙ (past₄ i (λ z. omega arith) ∙ (past₃ i (λ z. omega arith) ∙ (past₂ i (λ z. omega arith) ∙ get_or-set_other t (c * 5) i 0 0 (λ z. omega arith))))
-
-pub ruleset grows = (rules, grown)
 
 -- ---- what a trie with one entry more keeps
 
@@ -203,40 +122,37 @@ module _ {t t' : List ℕ} {w c b : ℕ} (g : Grown t t' w c b) (h : w < c * 5) 
 
 -- ---- one byte
 
-pub walks-lost : (t : List ℕ) (c s : ℕ) (u t' : List ℕ) (r : ℕ) → length t' ≡ length t → Walks t c s u t' 0 r
-walks-lost t c s u t' r n = record { room = n; told = λ z. absurd (z refl) }
-
 keeps_same : (t : List ℕ) (c : ℕ) → Keeps t c t c
 keeps_same t c = record { more = omega arith; reaches = λ s u r p. p; values = λ e h. refl; fresh = λ e h k. absurd (omega arith) }
 
-module _ {t : List ℕ} {c s b w : ℕ} (f : Sought t c b s w) (i : w < length t) where
+module _ {t : List ℕ} {c s b w : ℕ} (f : Sought t c b s (Some w)) where
   pub sought-room : w < c * 5
-  sought-room = meets-room (f.told i)
+  sought-room = meets-room f.told
 
   pub sought-slot : w % 5 < 3
-  sought-slot = meets-slot (omega arith) (f.told i)
+  sought-slot = meets-slot (omega arith) f.told
 
   module _ {m : ℕ} (q : m ≡ get_or t w 0) (l : s < c) where
-    pub walks-child : c * 5 ≤ length t → (m ≡ 0 → ⊥) → Walks t c s (b ∷ []) t c m
+    pub walks-child : c * 5 ≤ length t → (m ≡ 0 → ⊥) → Walks t c s (b ∷ []) t (Some (record { entry = m; count = c }))
     walks-child h z =
-        let d : m < c = rw q (meets-low (f.told i) (λ y. z (q ∙ y))) in
-        let p : Child t c s b m = record { inside = l; slot = w; meets = f.told i; is = sym q; some = z } in
-        record { room = refl; told = λ o. record { keeps = keeps_same t c; reaches = on p stop; inside = d; few = h } }
+        let d : m < c = rw q (meets-low f.told (λ y. z (q ∙ y))) in
+        let p : Child t c s b m = record { inside = l; slot = w; meets = f.told; is = sym q; some = z } in
+        record { room = refl; told = record { keeps = keeps_same t c; reaches = on p stop; inside = d; few = h } }
 
-    pub walks-grown : {t' : List ℕ} → c * 5 + 5 ≤ length t → m ≡ 0 → Grown t t' w c b → Walks t c s (b ∷ []) t' (c + 1) c
+    pub walks-grown : {t' : List ℕ} → c * 5 + 5 ≤ length t → m ≡ 0 → Grown t t' w c b → Walks t c s (b ∷ []) t' (Some (record { entry = c; count = c + 1 }))
     walks-grown h z g =
         let y : get_or t w 0 ≡ 0 = sym q ∙ z in
         record {
           room = g.room;
-          told = λ o. record {
+          told = record {
             keeps = keeps-grown g sought-room sought-slot y;
-            reaches = on (child-new g sought-room sought-slot y l (f.told i)) stop;
+            reaches = on (child-new g sought-room sought-slot y l f.told) stop;
             inside = omega arith;
             few = omega (arith, g.room);
           };
         }
 
-pub ruleset steps = (rules, sought-room, sought-slot, walks-lost, walks-child, walks-grown)
+pub ruleset steps = (rules, sought-room, sought-slot)
 
 -- ---- the bytes of a text
 
@@ -261,58 +177,55 @@ module _ {t t₁ t' : List ℕ} {c c₁ c' : ℕ} (k : Keeps t c t₁ c₁) (j :
   walked_then : {s m r : ℕ} {u w : List ℕ} → Reaches t₁ c₁ s u m → Reaches t' c' m w r → Reaches t' c' s (u ++ w) r
   walked_then {s} {m} {r} {u} p q = reaches_then (j.reaches s u m p) q
 
--- the bytes `all` from the entry s₀ on: those before `rest` lead to the entry s
-pub record Walking (t₀ : List ℕ) (c₀ s₀ : ℕ) (all t : List ℕ) (c s : ℕ) (rest : List ℕ) : Type 0 where
+-- the bytes `all` from the entry s₀ on: those before `rest` lead to the place p
+pub record Walking (t₀ : List ℕ) (c₀ s₀ : ℕ) (all t : List ℕ) (p : Place) (rest : List ℕ) : Type 0 where
   pub room : length t ≡ length t₀
   before : List ℕ
   is : all ≡ before ++ rest
-  walked : Walked t₀ c₀ s₀ before t c s
+  walked : Walked t₀ c₀ s₀ before t p.count p.entry
 
-pub walking-begin : {t : List ℕ} {c s : ℕ} (all : List ℕ) → s < c → c * 5 ≤ length t → Walking t c s all t c s all
-walking-begin {t} {c} {s} all l h = record { room = refl; before = []; is = refl; walked = record { keeps = keeps_same t c; reaches = stop; inside = l; few = h } }
+pub walking-begin : {t : List ℕ} (p : Place) (all rest : List ℕ) → all ≡ rest → p.entry < p.count → p.count * 5 ≤ length t → Walking t p.count p.entry all t p rest
+walking-begin {t} p all rest e l h = record { room = refl; before = []; is = e; walked = record { keeps = keeps_same t p.count; reaches = stop; inside = l; few = h } }
 
-module _ {t₀ : List ℕ} {c₀ s₀ : ℕ} {all t : List ℕ} {c s : ℕ} {rest : List ℕ} (k : Walking t₀ c₀ s₀ all t c s rest) where
-  pub walking-inside : s < c
+module _ {t₀ : List ℕ} {c₀ s₀ : ℕ} {all t : List ℕ} {p : Place} {rest : List ℕ} (k : Walking t₀ c₀ s₀ all t p rest) where
+  pub walking-inside : p.entry < p.count
   walking-inside = k.walked.inside
 
-  pub walking-few : c * 5 ≤ length t
+  pub walking-few : p.count * 5 ≤ length t
   walking-few = k.walked.few
 
   pub walking-room : length t₀ ≤ 327680 → length t ≤ 327680
   walking-room h = rw k.room h
 
   -- the rest leads on
-  walking-rest : {t' : List ℕ} {c' r : ℕ} → Walks t c s rest t' c' r → Walks t₀ c₀ s₀ all t' c' r
-  walking-rest w =
+  walking-rest : {t' : List ℕ} {o : Option Place} → Walks t p.count p.entry rest t' o → Walks t₀ c₀ s₀ all t' o
+  walking-rest {o = None} w = record { room = w.room ∙ k.room; told = tt }
+  walking-rest {o = Some q} w =
+      let y = w.told in
       record {
         room = w.room ∙ k.room;
-        told = λ z.
-            let y = w.told z in
-            record {
-              keeps = keeps_then k.walked.keeps y.keeps;
-              reaches = rw k.is (walked_then k.walked.keeps y.keeps k.walked.reaches y.reaches);
-              inside = y.inside;
-              few = y.few;
-            };
+        told = record {
+          keeps = keeps_then k.walked.keeps y.keeps;
+          reaches = rw k.is (walked_then k.walked.keeps y.keeps k.walked.reaches y.reaches);
+          inside = y.inside;
+          few = y.few;
+        };
       }
 
-  walking-end : rest ≡ [] → Walks t₀ c₀ s₀ all t c s
+  pub walking-end : rest ≡ [] → Walks t₀ c₀ s₀ all t (Some p)
   walking-end q =
       let y = k.walked in
-      record { room = k.room; told = λ z. record { keeps = y.keeps; reaches = rw (k.is, q, append-nil) y.reaches; inside = y.inside; few = y.few } }
+      record { room = k.room; told = record { keeps = y.keeps; reaches = rw (k.is, q, append-nil) y.reaches; inside = y.inside; few = y.few } }
 
   -- one byte more
-  module _ {b : ℕ} {t' : List ℕ} {c' r : ℕ} (w : Walks t c s (b ∷ []) t' c' r) where
-    pub walking-lost : c' ≡ 0 → Walks t₀ c₀ s₀ all t' c' r
-    walking-lost z = record { room = w.room ∙ k.room; told = λ n. absurd (n z) }
-
-    walking-more : {m : List ℕ} → rest ≡ b ∷ m → (c' ≡ 0 → ⊥) → Walking t₀ c₀ s₀ all t' c' r m
-    walking-more {m} q z =
-        let y = w.told z in
+  module _ {b : ℕ} {t' : List ℕ} where
+    pub walking-more : {q : Place} {m : List ℕ} → Walks t p.count p.entry (b ∷ []) t' (Some q) → rest ≡ b ∷ m → Walking t₀ c₀ s₀ all t' q m
+    walking-more {m = m} w e =
+        let y = w.told in
         record {
           room = w.room ∙ k.room;
           before = k.before ++ (b ∷ []);
-          is = k.is ∙ rw (q, append_assoc);
+          is = k.is ∙ rw (e, append_assoc);
           walked =
               record {
                 keeps = keeps_then k.walked.keeps y.keeps;
@@ -323,37 +236,19 @@ module _ {t₀ : List ℕ} {c₀ s₀ : ℕ} {all t : List ℕ} {c s : ℕ} {res
         }
 
 -- at a byte of the text
-module _ {x : List ℕ} {at end : ℕ} (d : Span x at end) {t₀ : List ℕ} {c₀ s₀ : ℕ} {all t : List ℕ} {c s : ℕ} (k : Walking t₀ c₀ s₀ all t c s (decode_at x at end)) where
-  pub plain_end : end ≤ at → Walks t₀ c₀ s₀ all t c s
+module _ {x : List ℕ} {at end : ℕ} (d : Span x at end) {t₀ : List ℕ} {c₀ s₀ : ℕ} {all t : List ℕ} {p : Place} (k : Walking t₀ c₀ s₀ all t p (decode_at x at end)) where
+  pub plain_end : end ≤ at → Walks t₀ c₀ s₀ all t (Some p)
   plain_end l = walking-end k (at-end d l)
 
-  pub plain_more : {t' : List ℕ} {c' r : ℕ} → at < end → (get_or x at 0 ≡ 92 → ⊥) → Walks t c s (get_or x at 0 ∷ []) t' c' r → (c' ≡ 0 → ⊥) → Walking t₀ c₀ s₀ all t' c' r (decode_at x (at + 1) end)
-  plain_more l n w z = walking-more k w (at_plain d l n) z
+  pub plain_more : {t' : List ℕ} {q : Place} → at < end → (get_or x at 0 ≡ 92 → ⊥) → Walks t p.count p.entry (get_or x at 0 ∷ []) t' (Some q) → Walking t₀ c₀ s₀ all t' q (decode_at x (at + 1) end)
+  plain_more l n w = walking-more k w (at_plain d l n)
 
-  pub plain-rest : {t' : List ℕ} {c' r : ℕ} → Walks t c s (ahead x (record { at = at; end = end; word = 0; left = 0 })) t' c' r → Walks t₀ c₀ s₀ all t' c' r
-  plain-rest {t'} {c'} {r} w = walking-rest k (rw (ahead-start x at end 0) at w)
+  pub plain-rest : {m : List ℕ} {t' : List ℕ} {o : Option Place} → m ≡ decode_at x at end → Walks t p.count p.entry m t' o → Walks t₀ c₀ s₀ all t' o
+  plain-rest e w = walking-rest k (rw e at w)
 
--- at a byte that the cursor hands out
-module _ (x m : List ℕ) (n : ℕ) (e : Step) (h : Steps x m n e) where
-  pub step_end : {t₀ : List ℕ} {c₀ s₀ : ℕ} {all t : List ℕ} {c s : ℕ} → e ≡ Done → Walking t₀ c₀ s₀ all t c s m → Walks t₀ c₀ s₀ all t c s
-  step_end q k = walking-end k (step-done x m n e h q)
-
-  pub step-more : {t₀ : List ℕ} {c₀ s₀ : ℕ} {all t : List ℕ} {c s : ℕ} {t' : List ℕ} {c' r : ℕ} (b : ℕ) (d : Cursor) → e ≡ Byte b d → Walking t₀ c₀ s₀ all t c s m → Walks t c s (b ∷ []) t' c' r
-      → (c' ≡ 0 → ⊥) → Walking t₀ c₀ s₀ all t' c' r (ahead x d)
-  step-more b d q k w z = walking-more k w (step-byte x m n e h b d q) z
-
-pub ruleset walks = (rules, onward, walking-begin, walking-inside, walking-few, walking-room, walking-lost, plain_end, plain_more, plain-rest, step_end, step-more, step-span, step-nearer)
+pub ruleset walks = (rules, onward, walking-begin, walking-inside, walking-few, walking-room, plain_end, plain-rest)
 
 -- ---- values
-
-pub emptied : (t : List ℕ) → 5 ≤ length t → Emptied t (set (set t 0 0) 4 0)
-emptied t n =
-    let r : length (set t 0 0) ≡ length t = set_room t 0 0 refl in
-    record {
-      room = set_room (set t 0 0) 4 0 r;
-      child = get_or-set_other (set t 0 0) 4 0 0 0 (λ z. omega arith) ∙ same_in t 0 0 refl (omega arith);
-      value = same_in (set t 0 0) 4 0 r (omega arith);
-    }
 
 module _ (t t' : List ℕ) (h : (i : ℕ) → i % 5 < 4 → get_or t' i 0 ≡ get_or t i 0) where
   meets-same : {c b q m z : ℕ} → q % 5 < 3 → Meets t c b q m z → Meets t' c b q m z
@@ -383,4 +278,4 @@ put-told t e v l =
       reaches = λ c s u r p. reaches_same t (set t (e * 5 + 4) v) (λ i k. get_or-set_other t (e * 5 + 4) i v 0 (λ z. omega arith)) p;
     }
 
-pub ruleset values = (rules, emptied, put-told)
+pub ruleset values = (rules, put-told)

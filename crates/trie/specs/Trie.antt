@@ -1,5 +1,6 @@
 -- A trie of texts in a list t of words, five for each entry. An entry is a number; 0 is the root, and none.
-use Rattle.std.specs.Prelude.{ℕ, ◌+◌, ◌*◌, ◌/◌, ◌%◌, ◌≤◌, ◌<◌, ◌≡◌, List, [], ◌∷◌, length, get_or}
+use Rattle.std.specs.Prelude.{ℕ, ◌+◌, ◌*◌, ◌/◌, ◌%◌, ◌≤◌, ◌<◌, ◌≡◌, List, [], ◌∷◌, length, get_or, Option, IfSome}
+use Rattle.trie.specs.declared.Place.{Place}
 
 -- the words of the entry e after its three slots: the byte that leads to it, and its value
 abbrev pub byte_of : List ℕ → ℕ → ℕ
@@ -53,14 +54,14 @@ pub record Walked (t : List ℕ) (c s : ℕ) (u t' : List ℕ) (c' r : ℕ) : Ty
   pub inside : r < c'
   pub few : c' * 5 ≤ length t'
 
--- r is the slot to which the search for the byte b among the children of the entry s goes, if it is a slot at all
-pub record Sought (t : List ℕ) (c b s r : ℕ) : Type 0 where
-  pub told : r < length t → Meets t c b (s * 5) b r
+-- o is the slot to which the search for the byte b among the children of the entry s goes, if it was not given up
+pub record Sought (t : List ℕ) (c b s : ℕ) (o : Option ℕ) : Type 0 where
+  pub told : IfSome o (λ r. Meets t c b (s * 5) b r)
 
--- the same as Walked, unless the way was given up (c' is 0)
-pub record Walks (t : List ℕ) (c s : ℕ) (u t' : List ℕ) (c' r : ℕ) : Type 0 where
+-- the same as Walked at the place o, if the way was not given up
+pub record Walks (t : List ℕ) (c s : ℕ) (u t' : List ℕ) (o : Option Place) : Type 0 where
   pub room : length t' ≡ length t
-  pub told : (c' ≡ 0 → ⊥) → Walked t c s u t' c' r
+  pub told : IfSome o (λ p. Walked t c s u t' p.count p.entry)
 
 -- t is the trie t₀ with a root alone, which has no value
 pub record Emptied (t₀ t : List ℕ) : Type 0 where

@@ -4,11 +4,12 @@ use mathlib.Core.Path.{◌≡◌}
 use mathlib.Core.Bool.{true, false}
 use mathlib.Core.List.{List}
 use lib.ListN.{get_or}
+use lib.Dec.{leb}
 use borrow.Author.Tests.{ne_eqb, le-leb, lt-leb}
 use Rattle.words.specs.Tables.{looks_second_level}
 
 module _ (x : List ℕ) (at end : ℕ) where
-  pub looks-short : end - at < 10 → false ≡ looks_second_level x at end
+  pub looks-short : end - at < 10 → leb 10 (end - at) ≡ looks_second_level x at end
   unfolding looks_second_level
   looks-short h = rw (lt-leb 10 (end - at) h)
 

@@ -1,29 +1,17 @@
--- The tables of depths and of permitted geometries.
-use Prim.Native.Nat.{ℕ, suc, ◌-◌, ◌/◌, ◌^◌, ◌≤◌, ◌<◌}
+-- The table of permitted geometries.
+use Prim.Native.Nat.{ℕ, ◌/◌, ◌^◌, ◌≤◌, ◌<◌}
 use native.Mathlib.Omega.{arith}
-use mathlib.Core.Path.{◌≡◌, refl, sym, subst}
+use mathlib.Core.Path.{◌≡◌, refl, sym, ◌∙◌}
 use mathlib.Core.Bool.{Bool, true, false, cond, ◌&&◌}
 use mathlib.Core.List.{List, [], ◌∷◌}
 use lib.ListN.{get_or}
 use lib.Bits.{bit_and}
 use lib.Dec.{eqb, ltb}
-use borrow.Author.Tests.{ne_eqb, ltb-true}
-use Rattle.words.specs.Words.{depth, values_depth, Row, permitted_rows, permitted_in, is_permitted, has, object_codes}
+use borrow.Author.Tests.{ne_eqb, ltb-true, le-ltb}
+use Rattle.words.specs.Words.{Row, permitted_rows, permitted_in, is_permitted, has, object_codes}
 use Rattle.utf8.specs.Laws.{both_left, both_right}
 use Rattle.words.specs.Tables.{bit_at, tabled}
 use Rattle.utf8.specs.Finite.{all_from, each_below, agree, agree-equal}
-
--- no depth is listed past the codes
-past : (f : ℕ → ℕ) → ((m : ℕ) → 0 ≡ f (suc (suc (suc (suc (suc (suc (suc (suc m))))))))) → (code : ℕ) → 8 ≤ code → 0 ≡ f code
-past f e code h = let z : suc (suc (suc (suc (suc (suc (suc (suc (code - 8)))))))) ≡ code = omega arith in subst (λ (n : ℕ). 0 ≡ f n) z (e (code - 8))
-
-pub depth-past : (code : ℕ) → 8 ≤ code → 0 ≡ depth code
-unfolding depth
-depth-past = past depth (λ m. refl)
-
-pub values-depth-past : (code : ℕ) → 8 ≤ code → 0 ≡ values_depth code
-unfolding values_depth
-values-depth-past = past values_depth (λ m. refl)
 
 -- are all of some numbers below m?
 unfoldable under : ℕ → List ℕ → Bool
@@ -69,9 +57,9 @@ module _ (object : ℕ) where
 
   module _ (code : ℕ) where
     -- no geometry has a code past 7
-    pub permitted-past : 8 ≤ code → false ≡ is_permitted object code
+    pub permitted-past : 8 ≤ code → ltb code 8 ≡ is_permitted object code
     unfolding is_permitted
-    permitted-past h = sym (has-past 8 code _ (geometries-under permitted_rows rows-bounded) h)
+    permitted-past h = le-ltb code 8 h ∙ sym (has-past 8 code _ (geometries-under permitted_rows rows-bounded) h)
 
     -- an object that is not in the rows may have each geometry
     pub permitted-other : 34 ≤ object → code < 8 → ltb 0 code ≡ is_permitted object code

@@ -2,26 +2,20 @@
 // geometry is.
 #![tactic(auto)]
 
-ghost use Rattle.std.specs.Prelude.{◌<◌, ◌≡◌, true, length};
+ghost use Rattle.std.specs.Prelude.{◌<◌, ◌≡◌, ◌&&◌, true, length, get_or, eqb};
 ghost use Rattle.utf8.specs.Ascii.{is_digit};
 ghost use Rattle.strings.specs.Spans.{Span, decode_at};
 ghost use Rattle.words.specs.Words.{is_added, is_added_name, is_lod, is_permitted, depth, values_depth};
 ghost use Rattle.words.specs.Tables.{tabled, looks_second_level};
+
+use strings::Decoder;
 
 // May the string be a type of the second level? Those have at least ten bytes and begin with B or T.
 pub fn may_be_second_level(text: &[u8], at: usize, end: usize) -> bool
     requires { Span text.now at end }
     ensures { result ≡ looks_second_level text.now at end }
 {
-    if end - at < 10 {
-        return false;
-    }
-    match text[at] {
-        b'B' => true,
-        b'T' => true,
-        b'\\' => true,
-        _ => false,
-    }
+    end - at >= 10 && matches!(text[at], b'B' | b'T' | b'\\')
 }
 
 // Does the string begin with a plus sign?
@@ -29,19 +23,7 @@ pub fn is_added(text: &[u8], at: usize, end: usize) -> bool
     requires { Span text.now at end }
     ensures { result ≡ is_added (decode_at text.now at end) }
 {
-    let first = strings::next(
-        text,
-        strings::Cursor {
-            at: at,
-            end: end,
-            word: 0,
-            left: 0,
-        },
-    );
-    let strings::Step::Byte(b, _) = first else {
-        return false;
-    };
-    b == b'+'
+    matches!(Decoder::new(text, at, end).next(), Some(b'+'))
 }
 
 // Does the string begin with a plus sign and have at least one more byte?
@@ -49,20 +31,17 @@ pub fn is_added_name(text: &[u8], at: usize, end: usize) -> bool
     requires { Span text.now at end }
     ensures { result ≡ is_added_name (decode_at text.now at end) }
 {
-    if !is_added(text, at, end) {
-        return false;
-    }
-    strings::decoded_length(text, at, end) > 1
+    is_added(text, at, end) && strings::decoded_length(text, at, end) > 1
 }
 
-// Is the byte a digit?
-fn is_digit(b: u8) -> bool
-    ensures { result ≡ is_digit b }
+// Are the bytes digit, point, digit?
+fn is_decimal(a: u8, b: u8, c: u8) -> bool
+    ensures { result ≡ is_digit a && eqb b 46 && is_digit c }
 {
-    if b < b'0' {
+    if !a.is_ascii_digit() || b != b'.' {
         return false;
     }
-    b <= b'9'
+    c.is_ascii_digit()
 }
 
 // Is the string a digit, or digit, point, digit?
@@ -70,40 +49,17 @@ pub fn is_lod(text: &[u8], at: usize, end: usize) -> bool
     requires { Span text.now at end }
     ensures { result ≡ is_lod (decode_at text.now at end) }
 {
-    let one = strings::next(
-        text,
-        strings::Cursor {
-            at: at,
-            end: end,
-            word: 0,
-            left: 0,
-        },
-    );
-    let strings::Step::Byte(a, c1) = one else {
+    let mut bytes = Decoder::new(text, at, end);
+    let Some(a) = bytes.next() else {
         return false;
     };
-    if !is_digit(a) {
-        return false;
-    }
-    let two = strings::next(text, c1);
-    let strings::Step::Byte(b, c2) = two else {
-        return true;
+    let Some(b) = bytes.next() else {
+        return a.is_ascii_digit();
     };
-    if b != b'.' {
-        return false;
-    }
-    let three = strings::next(text, c2);
-    let strings::Step::Byte(d, c3) = three else {
+    let Some(c) = bytes.next() else {
         return false;
     };
-    if !is_digit(d) {
-        return false;
-    }
-    let four = strings::next(text, c3);
-    let strings::Step::Byte(_, _) = four else {
-        return true;
-    };
-    false
+    is_decimal(a, b, c) && bytes.next().is_none()
 }
 
 // The geometries that an object may have: bit k is for the geometry of code k. First those of the objects that no row names.
@@ -127,12 +83,15 @@ const RELIEF: u8 = 0b0001_0000;
 // Of WaterBody.
 const WATER: u8 = 0b1011_1100;
 
-// May an object have a geometry, by a table with a row for each object's code?
+// May an object have a geometry, by a table with a row for each object's code? An object with no row may have each.
 fn in_table(rows: &[u8], object: usize, code: usize) -> bool
-    requires { (length rows.now ≡ 34) × (tabled rows.now ≡ true) × (object < 34) × (code < 8) }
+    requires { (length rows.now ≡ 34) × (tabled rows.now ≡ true) × (code < 8) }
     ensures { result ≡ is_permitted object code }
 {
-    rows[object] >> code & 1 == 1
+    match rows.get(object) {
+        Some(row) => *row >> code & 1 == 1,
+        None => code > 0,
+    }
 }
 
 // May an object whose type has the first code have a geometry whose type has the second?
@@ -175,33 +134,26 @@ pub fn permitted(object: usize, code: usize) -> bool
         ALL, // TunnelHollowSpace
         ALL, // TunnelFurniture
     ];
-    if code >= 8 {
-        return false;
-    }
-    if object >= 34 {
-        return code > 0;
-    }
-    in_table(&rows, object, code)
+    code < 8 && in_table(&rows, object, code)
+}
+
+// What a table has for a code; 0 past its end.
+fn entry(table: &[usize], code: usize) -> usize
+    ensures { result ≡ get_or table.now code 0 }
+{
+    table.get(code).copied().unwrap_or(0)
 }
 
 // How deep the boundary of a geometry type is.
 pub fn depth_of(code: usize) -> usize
     ensures { result ≡ depth code }
 {
-    let depths: [usize; 8] = [0, 1, 2, 3, 3, 4, 5, 5];
-    if code >= 8 {
-        return 0;
-    }
-    depths[code]
+    entry(&[0, 1, 2, 3, 3, 4, 5, 5], code)
 }
 
 // How deep the values of a geometry type are.
 pub fn values_depth_of(code: usize) -> usize
     ensures { result ≡ values_depth code }
 {
-    let depths: [usize; 8] = [0, 1, 1, 1, 1, 2, 3, 3];
-    if code >= 8 {
-        return 0;
-    }
-    depths[code]
+    entry(&[0, 1, 1, 1, 1, 2, 3, 3], code)
 }

@@ -4,6 +4,9 @@ use native.Mathlib.Omega.{arith}
 use native.Mathlib.Numerals.{add-one}
 use native.Mathlib.Nat.{eq-zero-or-pos}
 use mathlib.Core.Path.{◌≡◌, refl, sym, ◌∙◌, ap}
+use Rattle.std.proofs.Common.{zero, suc, Option, Some, None}
+use Rattle.std.specs.Bool.{then_some}
+use Rattle.utf8.specs.Says.{found}
 use mathlib.Core.Bool.{Bool, true, false, cond, ◌&&◌, ◌||◌}
 use mathlib.Core.List.{List, [], ◌∷◌, ◌++◌}
 use mathlib.Core.Logic.{⊎_elim}
@@ -12,7 +15,7 @@ use lib.Seq.{drop-cons, drop-drop}
 use lib.Dec.{leb}
 use borrow.Author.Tests.{leb-true, le-leb, lt-leb}
 use Rattle.utf8.specs.Utf8.{number, size}
-use Rattle.utf8.specs.Rows.{Range, rows, is_in, matches, row, Matches, Begins}
+use Rattle.utf8.specs.Rows.{Range, utf8_tail, rows, is_in, matches, row, Matches, Begins}
 use Rattle.utf8.specs.Rows.Range.{◌to◌}
 use Rattle.utf8.specs.Laws.{below_or_not, never, written-character, written-bytes, size-written}
 use Rattle.utf8.specs.Finite.{all_from, each_below}
@@ -125,11 +128,11 @@ module _ (text : List ℕ) where
         none-size (drop at text)
         (λ j f. between-opens m n _ (row j) (each_below (λ k. misses m n (row k)) 9 j e f.there) l k (match-opens j _ (drop (at + 1) text) (matches-here f)))
 
-    pub none_between : 0x7F < get_or text at 0 → get_or text at 0 < 0xC2 → 0 ≡ size (drop at text)
+    none_between : 0x7F < get_or text at 0 → get_or text at 0 < 0xC2 → 0 ≡ size (drop at text)
     unfolding rows row misses
     none_between l k = none 0x7F 0xC2 refl l k
 
-    pub none_above : 0xF3 < get_or text at 0 → (get_or text at 0 ≡ 0xF4 → ⊥) → 0 ≡ size (drop at text)
+    none_above : 0xF3 < get_or text at 0 → (get_or text at 0 ≡ 0xF4 → ⊥) → 0 ≡ size (drop at text)
     unfolding rows row misses
     none_above l e = none 0xF4 (get_or text at 0 + 1) refl (omega arith) (omega arith)
 
@@ -148,3 +151,42 @@ module _ (text : List ℕ) where
         by false g =
             none-size (drop at text)
             (λ j m. let q = only_row k _ (drop (at + 1) text) l (rw e (opens lo hi)) j (matches-here at h m) in never (rw q at m).all (rest ∙ sym g))
+
+-- ---- the length of a character, if there is one
+
+module _ {m : ℕ} where
+  pub found-row : (p : Bool) (n : ℕ) → 0 < n → cond p n 0 ≡ m → then_some p n ≡ found m
+  found-row true zero h e = absurd (omega arith)
+  found-row true (suc n) h e = ap found e
+  found-row false n h e = ap found e
+
+  pub found-none : None ≡ found m → m ≡ 0
+  found-none e = by m e
+    where
+      by : (k : ℕ) → None ≡ found k → k ≡ 0
+      by zero e = refl
+      by (suc k) e = cc
+
+  pub found-some : (n : ℕ) → Some n ≡ found m → (n ≡ m) × (0 < n)
+  found-some n e = by m e
+    where
+      by : (k : ℕ) → Some n ≡ found k → (n ≡ k) × (0 < n)
+      by zero e = cc
+      by (suc k) e = let q : n ≡ suc k = cc in (q, omega arith)
+
+module _ (text : List ℕ) (at : ℕ) (h : at < length text) where
+  pub found_between : 0x7F < get_or text at 0 → get_or text at 0 < 0xC2 → None ≡ found (size (drop at text))
+  found_between l k = ap found (none_between text at h l k)
+
+  pub found_above : 0xF3 < get_or text at 0 → (get_or text at 0 ≡ 0xF4 → ⊥) → None ≡ found (size (drop at text))
+  found_above l e = ap found (none_above text at h l e)
+
+  -- the rows that begin with a byte of a wide range
+  pub row_one : get_or text at 0 ≤ 0x7F → Some 1 ≡ found (size (drop at text))
+  unfolding rows row matches
+  row_one l = ap found (arm text at 0 true refl refl (omega arith) h (omega arith) l)
+
+  pub row_two : {r : Option ℕ} {p : Bool} → r ≡ then_some p 2 → p ≡ matches (utf8_tail ∷ []) (drop (at + 1) text) → 0xC2 ≤ get_or text at 0 → get_or text at 0 ≤ 0xDF
+      → r ≡ found (size (drop at text))
+  unfolding rows row
+  row_two {r} {p} e g lo hi = e ∙ found-row p 2 (omega arith) (arm text at 1 p g refl (omega arith) h lo hi)

@@ -8,6 +8,8 @@ use mathlib.Core.List.{List}
 use mathlib.Core.Logic.{⊎_elim}
 use lib.ListN.{length, drop, get_or, length-drop, drop_of_length-le}
 use lib.Seq.{drop-drop}
+use lib.Bits.{or_add_and, and_le_l, and_le_r}
+use Rattle.std.proofs.Common.{bit_or, ◌-◌, take, length-take-le, get_or-take, get_or-drop}
 use lib.Dec.{ltb}
 use borrow.Author.Count.{below_more}
 use borrow.Author.Tests.{ltb-true}
@@ -45,8 +47,18 @@ module _ (text : List ℕ) where
     pub gather_none : (m : ℕ) → Under text at 0 m
     gather_none m = record { most = λ k i. absurd (omega arith) }
 
-    pub gather-more : (k m r : ℕ) → Under text at k m → m ≤ r → get_or text (at + k) 0 ≤ r → Under text at (k + 1) r
-    gather-more k m r h p q = record { most = below_more (λ j. get_or text (at + j) 0 ≤ r) k (λ j i. omega (arith, h.most j i)) q }
+    pub gather-more : (k m b : ℕ) → Under text at k m → b ≡ get_or text (at + k) 0 → Under text at (k + 1) (bit_or m b)
+    gather-more k m b h q =
+        let l : m ≤ bit_or m b = omega (arith, or_add_and m b, and_le_l m b, and_le_r m b) in
+        let u : b ≤ bit_or m b = omega (arith, or_add_and m b, and_le_l m b, and_le_r m b) in
+        record { most = below_more (λ j. get_or text (at + j) 0 ≤ bit_or m b) k (λ j i. omega (arith, h.most j i)) (omega arith) }
+
+    -- the next 64 bytes
+    pub next-length : at + 64 ≤ length text → length (take (at + 64 - at) (drop at text)) ≡ 64
+    next-length h = let e : at + 64 - at ≡ 64 = omega arith in rw e (length-take-le 64 (drop at text) (omega (arith, length-drop at text)))
+
+    pub next-byte : (k : ℕ) → k < 64 → get_or (take (at + 64 - at) (drop at text)) k 0 ≡ get_or text (at + k) 0
+    next-byte k h = get_or-take (at + 64 - at) (drop at text) k 0 (omega arith) ∙ get_or-drop at text k 0
 
     pub gather-all : (k m : ℕ) → Under text at k m → 64 ≤ k → Under text at 64 m
     gather-all k m h l = record { most = λ j i. h.most j (omega arith) }

@@ -1,6 +1,11 @@
 -- What the code's helper functions say of their results.
-use Rattle.std.specs.Prelude.{ℕ, ◌+◌, ◌≤◌, ◌<◌, ◌≡◌, List, length, drop, get_or}
+use Rattle.std.specs.Prelude.{ℕ, zero, suc, Option, Some, None, ◌+◌, ◌≤◌, ◌<◌, ◌≡◌, List, length, drop, get_or}
 use Rattle.utf8.specs.Utf8.{whole_length}
+
+-- the length of a character, if there is one: it is not 0
+abbrev pub found : ℕ → Option ℕ
+found zero = None
+found (suc n) = Some (suc n)
 
 -- none of the n bytes from this place on is above m
 pub record Under (text : List ℕ) (at n m : ℕ) : Type 0 where

@@ -1,21 +1,20 @@
 // Whole characters of UTF-8 (RFC 3629): how many bytes of a text they make up.
 #![tactic(auto)]
 
-ghost use Rattle.std.specs.Prelude.{◌+◌, ◌≤◌, ◌<◌, true, cond, [], ◌∷◌, ◌≡◌, length, drop};
+ghost use Rattle.std.specs.Prelude.{◌+◌, ◌≤◌, ◌<◌, true, [], ◌∷◌, ◌≡◌, length, drop};
 ghost use Rattle.utf8.specs.Utf8.{size, whole_length};
 ghost use Rattle.utf8.specs.Rows.{utf8_tail, matches};
 ghost use Rattle.utf8.specs.Rows.Range.{◌to◌};
-ghost use Rattle.utf8.specs.Says.{Passed, Under};
+ghost use Rattle.utf8.specs.Says.{found, Passed, Under};
 
 // Has the text a byte from `low` to `high` at `at`?
 fn has(text: &[u8], at: usize, low: u8, high: u8) -> bool
     ensures { result ≡ matches (low to high ∷ []) (drop at text.now) }
 {
-    if at >= text.len() {
-        return false; // The text ends here.
+    match text.get(at) {
+        Some(b) => low <= *b && *b <= high,
+        None => false, // The text ends here.
     }
-    let b = text[at];
-    low <= b && b <= high
 }
 
 // UTF8-tail = %x80-BF
@@ -25,7 +24,7 @@ fn tail(text: &[u8], at: usize) -> bool
     has(text, at, 0x80, 0xBF)
 }
 
-// 2( UTF8-tail )
+// 2( UTF8-tail ). This and the next stay two functions: a number of tails would need a loop for one `&&`, and is no plainer.
 fn two_tails(text: &[u8], at: usize) -> bool
     ensures { result ≡ matches (utf8_tail ∷ utf8_tail ∷ []) (drop at text.now) }
 {
@@ -39,45 +38,37 @@ fn three_tails(text: &[u8], at: usize) -> bool
     tail(text, at) && two_tails(text, at + 1)
 }
 
-// The bytes of a row that count: all n if the rest of the row matches, else none.
-fn counted(n: usize, rest: bool) -> usize
-    ensures { result ≡ cond rest n 0 }
-{
-    if rest {
-        return n;
-    }
-    0
-}
-
-// How many bytes the character at `at` has; 0 if none stands there. The cases are the rows of RFC 3629, section 4, in its order.
-fn character(text: &[u8], at: usize) -> usize
+// How many bytes the character at `at` has, if one stands there. The cases are the rows of RFC 3629, section 4, in its order.
+#[tactic(auto, using(crate::proofs::Arms::row_one, crate::proofs::Arms::row_two))]
+fn character(text: &[u8], at: usize) -> Option<usize>
     requires { at < length text.now }
-    ensures { result ≡ size (drop at text.now) }
+    ensures { result ≡ found (size (drop at text.now)) }
 {
     match text[at] {
         // UTF8-1 = %x00-7F
-        0x00..=0x7F => 1,
+        0x00..=0x7F => Some(1),
         // UTF8-2 = %xC2-DF UTF8-tail
-        0xC2..=0xDF => counted(2, tail(text, at + 1)),
+        0xC2..=0xDF => tail(text, at + 1).then_some(2),
         // UTF8-3 = %xE0 %xA0-BF UTF8-tail /
-        0xE0 => counted(3, has(text, at + 1, 0xA0, 0xBF) && tail(text, at + 2)),
+        0xE0 => (has(text, at + 1, 0xA0, 0xBF) && tail(text, at + 2)).then_some(3),
         //          %xE1-EC 2( UTF8-tail ) /
-        0xE1..=0xEC => counted(3, two_tails(text, at + 1)),
+        0xE1..=0xEC => two_tails(text, at + 1).then_some(3),
         //          %xED %x80-9F UTF8-tail /
-        0xED => counted(3, has(text, at + 1, 0x80, 0x9F) && tail(text, at + 2)),
+        0xED => (has(text, at + 1, 0x80, 0x9F) && tail(text, at + 2)).then_some(3),
         //          %xEE-EF 2( UTF8-tail )
-        0xEE..=0xEF => counted(3, two_tails(text, at + 1)),
+        0xEE..=0xEF => two_tails(text, at + 1).then_some(3),
         // UTF8-4 = %xF0 %x90-BF 2( UTF8-tail ) /
-        0xF0 => counted(4, has(text, at + 1, 0x90, 0xBF) && two_tails(text, at + 2)),
+        0xF0 => (has(text, at + 1, 0x90, 0xBF) && two_tails(text, at + 2)).then_some(4),
         //          %xF1-F3 3( UTF8-tail ) /
-        0xF1..=0xF3 => counted(4, three_tails(text, at + 1)),
+        0xF1..=0xF3 => three_tails(text, at + 1).then_some(4),
         //          %xF4 %x80-8F 2( UTF8-tail )
-        0xF4 => counted(4, has(text, at + 1, 0x80, 0x8F) && two_tails(text, at + 2)),
-        _ => 0,
+        0xF4 => (has(text, at + 1, 0x80, 0x8F) && two_tails(text, at + 2)).then_some(4),
+        _ => None,
     }
 }
 
 // Past the characters from `at` on, to the first that begins at `end` or later, or to where none stands.
+// No `for` here: the place goes on by the length of what stands there.
 fn characters(text: &[u8], at: usize, end: usize) -> usize
     requires end_in_bounds { end ≤ length text.now }
     requires at_in_bounds { at ≤ length text.now }
@@ -85,20 +76,12 @@ fn characters(text: &[u8], at: usize, end: usize) -> usize
 {
     let mut i = at;
     while i < end {
-        let n = character(text, i);
-        if n == 0 {
+        let Some(n) = character(text, i) else {
             return i;
-        }
+        };
         i += n;
     }
     i
-}
-
-// A byte that is at least either of two: their bits together.
-fn joined(a: u8, b: u8) -> u8
-    ensures { (a ≤ result) × (b ≤ result) }
-{
-    a | b
 }
 
 // A byte that is at least each of the next 64: their bits together.
@@ -107,10 +90,8 @@ fn gathered(text: &[u8], at: usize) -> u8
     ensures { Under text.now at 64 result }
 {
     let mut all: u8 = 0;
-    let mut k: usize = 0;
-    while k < 64 {
-        all = joined(all, text[at + k]);
-        k += 1;
+    for b in &text[at..at + 64] {
+        all |= *b;
     }
     all
 }
@@ -134,7 +115,8 @@ fn block(text: &[u8], at: usize) -> usize
     characters(text, at, at + 64)
 }
 
-// How many bytes of the text are whole characters, up to the first that is not.
+// How many bytes of the text are whole characters, up to the first that is not. The rows are written out here, and `str::from_utf8` is not asked:
+// the must-fail edits of the rows need them. A character can end past a block, so no `chunks` of the text are the blocks.
 pub fn whole(text: &[u8]) -> usize
     ensures { result ≡ whole_length text.now }
 {

@@ -1,7 +1,7 @@
 -- Verdicts by computation: the sample reading (docs/TRACE.md) that has no star, two whose ends the papers give, two texts that are accepted,
 -- and two that rules 3 and 4 refuse.
 -- The starred readings are in `sheets`.
-use Rattle.std.specs.Prelude.{ℕ, ◌≡◌, refl, List, [], ◌++◌, replicate}
+use Rattle.std.specs.Prelude.{ℕ, ◌≡◌, refl, List, ◌++◌, replicate}
 use Rattle.utf8.specs.Ascii.{ascii, is_digit}
 use Rattle.json_text.specs.Tree.{◌◂◌, with}
 use Rattle.json_text.specs.Machine.{step, want_step, got_step, next_step, name_step, mant_step, nought_step, is_blank, is_hex, is_escape}

@@ -1,7 +1,6 @@
 -- The verdict is the lowest broken rule (docs/RULES.md) at its earliest place, with the end of that place, and a text is accepted exactly if
 -- it breaks no rule (promise 2 of README.md, for judge).
 use Rattle.std.specs.Prelude.{ℕ, ◌+◌, ◌≤◌, ◌<◌, ◌≡◌, ◌⊎◌, length, take}
-use mathlib.Core.List.Memᴰ
 use mathlib.Core.List.{List, [], Memᴰ}
 use Rattle.utf8.specs.Utf8.{whole_length}
 use Rattle.json_text.specs.Tree.{Json}

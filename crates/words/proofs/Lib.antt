@@ -1,4 +1,2 @@
 -- What the proofs of several functions use.
-mod Scan
-mod Guess
-mod Rules
+mod Places

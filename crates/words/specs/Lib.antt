@@ -2,4 +2,3 @@
 pub mod Words
 pub mod Tables
 pub mod Laws
-pub mod Says

@@ -1,28 +1,27 @@
--- What the functions are asked and tell besides the codes: the number of the first of some words that a text is, where the words stand one after the
--- other in a string of bytes; a table of the permitted geometries; and a look at a string before it is compared with the types.
-use Rattle.std.specs.Prelude.{ℕ, ◌+◌, ◌-◌, ◌/◌, ◌^◌, Bool, true, cond, ◌&&◌, ◌||◌, List, [], ◌∷◌, take, drop, get_or, eqb, leb}
+-- What the functions are asked and tell besides the codes: the number of the first of some words that a text is; a table of the permitted geometries;
+-- and a look at a string before it is compared with the types.
+use Rattle.std.specs.Prelude.{ℕ, ◌+◌, ◌-◌, ◌/◌, ◌^◌, ◌<◌, ◌≡◌, Bool, false, cond, ◌&&◌, ◌||◌, List, [], ◌∷◌, length, get_or, eqb, leb}
 use Prim.Native.String.{String}
 use Rattle.std.specs.Int.Bits.{bit_and}
 use Rattle.utf8.specs.Ascii.{ascii}
 use Rattle.utf8.specs.Finite.{all_from, agree}
 use Rattle.utf8.specs.Utf8.{same}
+use Rattle.strings.specs.Spans.{has_byte}
 use Rattle.words.specs.Words.{is_permitted}
-
--- the words of the bytes from an offset on, by the offsets at which they end
-unfoldable pub words_in : List ℕ → ℕ → List ℕ → List (List ℕ)
-words_in bytes from [] = []
-words_in bytes from (e ∷ es) = take (e - from) (drop from bytes) ∷ words_in bytes e es
-
--- do the ends go on from an offset in order, none past a length?
-unfoldable pub in_order : ℕ → List ℕ → ℕ → Bool
-in_order from [] size = true
-in_order from (e ∷ es) size = leb from e && leb e size && in_order e es size
 
 -- the number, counted from n, of the first of some words that a text is; 0 if it is none of them
 unfoldable pub number_in : ℕ → List (List ℕ) → List ℕ → ℕ
 unfolding same
 number_in n [] t = 0
 number_in n (w ∷ ws) t = cond (same w t) n (number_in (n + 1) ws t)
+
+-- no two of the words are the same: the number of each is its place, counted from 1
+pub record Numbered (words : List (List ℕ)) : Type 0 where
+  pub is : (k : ℕ) → k < length words → number_in 1 words (get_or words k []) ≡ k + 1
+
+-- none of the words has a backslash
+pub record Unescaped (words : List (List ℕ)) : Type 0 where
+  pub is : (k : ℕ) → k < length words → has_byte 92 (get_or words k []) ≡ false
 
 -- the bytes of quoted words
 unfoldable pub spelled : List String → List (List ℕ)

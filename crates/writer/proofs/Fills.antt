@@ -1,41 +1,17 @@
--- What the stores of the functions leave: zeroes, numbers, strings.
-use mathlib.Core.Path.{◌≡◌, refl, sym, ap, ◌∙◌}
-use mathlib.Core.List.{List, ◌++◌, append-nil}
-use Prim.Native.Nat.{ℕ, suc, ◌+◌, ◌*◌, ◌/◌, ◌%◌, ◌^◌, ◌≤◌, ◌<◌}
-use native.Mathlib.Omega.{arith}
-use native.Mathlib.Numerals.{add-one}
-use lib.ListN.{length, drop, set, replicate, length-set}
-use lib.Seq.{sets-eq, drop-length}
-use borrow.Author.Fill.{fill_more}
+-- What the stores of the functions leave: numbers, strings.
+use Rattle.std.specs.Prelude.{◌≡◌, refl, List, ◌∷◌, ℕ, zero, suc, ◌+◌, ◌-◌, ◌*◌, ◌/◌, ◌%◌, ◌^◌, ◌≤◌, ◌<◌, length, take, drop}
+use Rattle.std.specs.Int.{w64, byte_at, bytes_low_first, to_le_bytes}
+use Rattle.std.proofs.Common.{sym, ap, ◌∙◌, arith, pow-suc, div-one, append_assoc}
+use Rattle.std.proofs.Math.Nat.{pow-zero, div-div-eq-div-mul}
+use Rattle.std.proofs.Math.Seq.{length-sets}
+use Rattle.std.proofs.lemmas.List.Edits.{sets, sets-eq, paste_all}
+use Rattle.std.proofs.lemmas.Slice.{put_mid-paste}
+use borrow.Rule.Slice.PartMut.{put_mid}
 use Rattle.utf8.specs.Bytes.{le}
 use Rattle.model.proofs.Weigh.{length-le}
 use Rattle.strings.specs.Spans.{Span, decode_at, Copied}
 use Rattle.strings.specs.Laws.{decode_at-short}
 use Rattle.writer.specs.Writes.{Writes, Stores, Skips}
-use Rattle.writer.specs.Laws.{le_split, then, as_bytes}
-
--- ---- zeroes
-
--- the bytes of d₀ before i were set to 0
-pub record Cleared (d₀ d : List ℕ) (i : ℕ) : Type 0 where
-  pub within : i ≤ length d₀
-  pub room : length d ≡ length d₀
-  pub zeroes : d ≡ replicate i 0 ++ drop i d₀
-
-pub cleared-start : (d : List ℕ) → Cleared d d 0
-cleared-start d = record { within = omega arith; room = refl; zeroes = refl }
-
-pub cleared-turn : {d₀ d : List ℕ} {i : ℕ} → Cleared d₀ d i → i < length d → Cleared d₀ (set d i 0) (i + 1)
-cleared-turn {d₀} {d} {i} c h = record {
-  within = omega (arith, c.room);
-  room = length-set d i 0 ∙ c.room;
-  zeroes = ap (λ l. set l i 0) c.zeroes ∙ fill_more i 0 d₀ (omega (arith, c.room));
-}
-
-pub cleared-all : {d₀ d : List ℕ} {i : ℕ} → Cleared d₀ d i → length d ≤ i → d ≡ replicate (length d₀) 0
-cleared-all {d₀} {d} {i} c h =
-    let e : i ≡ length d₀ = omega (arith, c.room, c.within) in
-    c.zeroes ∙ ap (λ k. replicate k 0 ++ drop k d₀) e ∙ rw drop-length (append-nil (replicate (length d₀) 0))
 
 -- ---- bytes
 
@@ -58,40 +34,36 @@ no_room e s h = record {
 fitting : {ws d₀ d : List ℕ} {n at end r : ℕ} → n ≡ length ws → Skips n at end → end ≤ length d₀ → length d₀ * 1 < 2 ^ 63 → Writes ws d₀ d at r → Stores ws d₀ d at r
 fitting e s h l w = record { writes = w; kept = λ over. absurd (omega (arith, s.ends)) }
 
--- room for the second byte of a number, the third and the fourth
-module _ (n : ℕ) (d : List ℕ) (a b c at end : ℕ) (s : Skips n at end) (h : end ≤ length d) (l : length d * 1 < 2 ^ 63) where
-  pub second : 2 ≤ n → at + 1 < length (set d at a)
-  second w = simp length-set (omega (arith, s.ends))
+-- the low bytes of a number, of those that `to_le_bytes` gives
+byte-is : (i n : ℕ) → byte_at i n ≡ n / 256 ^ i % 256
+byte-is zero n = rw (pow-zero, div-one) refl
+byte-is (suc i) n = refl
 
-  pub third : 3 ≤ n → at + 2 < length (set (set d at a) (at + 1) b)
-  third w = simp length-set (omega (arith, s.ends))
-
-  pub fourth : 4 ≤ n → at + 3 < length (set (set (set d at a) (at + 1) b) (at + 2) c)
-  fourth w = simp length-set (omega (arith, s.ends))
-
--- two bytes
-pub put_two : (d : List ℕ) (n at end : ℕ) → Skips 2 at end → end ≤ length d → length d * 1 < 2 ^ 63 → Stores (le 2 n) d (set (set d at (n % 256)) (at + 1) (n / 256 % 256)) at end
+low-bytes : (i w n : ℕ) → bytes_low_first i w n ≡ le w (n / 256 ^ i)
 unfolding le
-put_two d n at end s h l = fitting refl s h l (record { ends = s.ends; onward = s.onward; room = simp length-set; wrote = λ fits low. rw add-one })
+low-bytes i zero n = refl
+low-bytes i (suc w) n =
+    let p : n / 256 ^ i / 256 ≡ n / 256 ^ suc i = rw (pow-suc, ← div-div-eq-div-mul) refl in
+    rw (p, byte-is i n) (ap (λ l. n / 256 ^ i % 256 ∷ l) (low-bytes (suc i) w n))
 
--- four bytes
-pub put_four : (d : List ℕ) (n at end : ℕ) → Skips 4 at end → end ≤ length d → length d * 1 < 2 ^ 63
-    → Stores (le 4 n) d (set (set (set (set d at (n % 256)) (at + 1) (n / 256 % 256)) (at + 2) (n / 65536 % 256)) (at + 3) (n / 16777216 % 256)) at end
+take-le : (v w n : ℕ) → v ≤ w → take v (le w n) ≡ le v n
 unfolding le
-put_four d n at end s h l =
-    let p : n / 65536 ≡ n / 256 / 256 = omega arith in
-    let q : n / 16777216 ≡ n / 256 / 256 / 256 = omega arith in
-    let i : at + 2 ≡ suc (suc at) = omega arith in
-    let j : at + 3 ≡ suc (suc (suc at)) = omega arith in
-    fitting refl s h l (record { ends = s.ends; onward = s.onward; room = simp length-set; wrote = λ fits low. rw (p, q, i, j, add-one) })
+take-le zero w n h = refl
+take-le (suc v) zero n h = absurd (omega arith)
+take-le (suc v) (suc w) n h = ap (λ l. n % 256 ∷ l) (take-le v w (n / 256) (omega arith))
 
--- a number by its halves
-module _ (n : ℕ) {at q r end : ℕ} {d d₁ d₂ : List ℕ} where
-  joined : (v w : ℕ) → Skips (v + w) at end → end ≤ length d → length d * 1 < 2 ^ 63 → Stores (le v n) d d₁ at q → Stores (le w (n / 256 ^ v)) d₁ d₂ q r → Stores (le (v + w) n) d d₂ at r
-  joined v w s h l f g = fitting (size-le (v + w) n) s h l (as_bytes (sym (le_split v w n)) (then f.writes g.writes))
-
-  pub put-eight : Skips 8 at end → end ≤ length d → length d * 1 < 2 ^ 63 → Stores (le 4 n) d d₁ at q → Stores (le 4 (n / 0x1_0000_0000)) d₁ d₂ q r → Stores (le 8 n) d d₂ at r
-  put-eight = joined 4 4
+-- bytes copied to their place
+pub placed : (w n : ℕ) {d₀ ys bs : List ℕ} {at end : ℕ} → w ≤ 8 → Skips w at end → end ≤ length d₀ → length d₀ * 1 < 2 ^ 63 → bs ≡ to_le_bytes w64 n → ys ≡ take w bs
+    → Stores (le w n) d₀ (put_mid at (end - at) d₀ ys) at end
+placed w n {d₀} {ys} {bs} {at} {end} m s h l e y =
+    let k = length-le w n in
+    let b : bs ≡ le 8 n = e ∙ low-bytes 0 8 n ∙ ap (le 8) (rw (pow-zero, div-one) refl) in
+    let z : ys ≡ le w n = y ∙ ap (take w) b ∙ take-le w 8 n m in
+    let ws = le w n in
+    let p : put_mid at (end - at) d₀ ys ≡ sets d₀ at ws =
+    put_mid-paste at (end - at) d₀ ys ws (length ws) z (omega (arith, k, s.ends, s.onward)) refl
+    ∙ paste_all d₀ at ws (length ws) refl ∙ sym (append_assoc (take at d₀) ws (drop (at + length ws) d₀)) ∙ sym (sets-eq ws d₀ at (omega (arith, k, s.ends))) in
+    fitting (sym k) s h l (record { ends = omega (arith, s.ends); onward = s.onward; room = ap length p ∙ length-sets d₀ at (le w n); wrote = λ fits low. p })
 
 -- a string
 pub copied : {ws d₀ d : List ℕ} {n at end r : ℕ} → n ≡ length ws → Skips n at end → end ≤ length d₀ → length d₀ * 1 < 2 ^ 63 → Copied ws d₀ d at r → length d ≡ length d₀ → Stores ws d₀ d at r

@@ -6,9 +6,11 @@ use Rattle.std.proofs.lemmas.List.{length-replicate, set_comm}
 use Rattle.std.proofs.lemmas.List.Edits.{sets, sets-eq}
 use Rattle.utf8.specs.Bytes.{le}
 use Rattle.model.specs.Code.{signed, Holds}
-use Rattle.model.specs.Model.{lay_rec}
+use Rattle.model.specs.Model.{rec, lay_rec}
 use Rattle.model.proofs.Weigh.{length-le, length-rec}
-use Rattle.writer.specs.Writes.{Writes, Skips, Closes, twos}
+use Rattle.std.specs.Borrow.{MutBor}
+use Rattle.std.specs.Fn.{Once}
+use Rattle.writer.specs.Writes.{Writes, Skips, Closes, Recorded, twos}
 
 -- ---- bytes set one after the other
 
@@ -92,6 +94,13 @@ headed {kind} {at} {body} {end} {q} {r} {d} {d₁} {d₂} s h f g = record {
             ∙ ap (λ n. sets d₀ at (le 4 n ++ le 2 kind ++ payload)) there;
       };
 }
+
+-- a record, by the bytes that its payload is
+pub recorded_writes : {F : Type 0} {g : Once F (MutBor (List ℕ) × (ℕ × Unit {0})) (ℕ × (MutBor (List ℕ) × Unit {0}))} {h : F}
+    {kind : ℕ} {ws d₀ d : List ℕ} {at r : ℕ} → Recorded g h kind d₀ d at r
+    → ((p q : MutBor (List ℕ)) (body end : ℕ) → g.post h (p, (body, tt)) (end, (q, tt)) → Writes ws p.now q.now body end)
+    → Writes (lay_rec (rec kind ws)) d₀ d at r
+recorded_writes c w = rw c.was at (c.closes.closes _ _ (w c.before c.after c.body _ c.met))
 
 -- ---- numbers in bytes
 

@@ -1,3 +1,5 @@
+use Rattle.std.proofs.Common.{arith}
+use Rattle.arrays.specs.Laws.{laying-item, laying-turn}
 use Rattle.arrays.proofs.Nodes.{values-leaf, values-done}
 use Rattle.arrays.proofs.Rules.{arrays}
 use Rattle.arrays.proofs.+values.Goals as goal
@@ -12,16 +14,10 @@ pub loop-k-init : goal.loop-k-init
 loop-k-init t c = search arrays
 
 pub values-o-requires : goal.values-o-requires
-values-o-requires t c = search arrays
-
-pub next-k-requires : goal.next-k-requires
-next-k-requires t c = search arrays
-
-pub loop-k-smaller : goal.loop-k-smaller
-loop-k-smaller t c = search arrays
+values-o-requires t c = (omega arith, laying-item c.loop-k.invariant c.in-Some.ensures.steps)
 
 pub loop-k-preserved : goal.loop-k-preserved
-loop-k-preserved t c = search arrays
+loop-k-preserved t c = laying-turn c.loop-k.invariant c.in-Some.ensures.steps c.values-o.ensures
 
 pub returns : goal.returns
-returns t c = search values-done
+returns t c = search (values-done, c.in-None.ensures.steps.0)

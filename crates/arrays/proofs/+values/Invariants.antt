@@ -9,7 +9,6 @@ abbrev pub decreases-values : goal.decreases-values
 decreases-values l = l.depth
 
 abbrev pub invariant-loop-k : goal.invariant-loop-k
-invariant-loop-k l = Laying (Leaves Value (l.depth - 1)) (λ w. lay_values (l.depth - 1) (nest_of value_of (l.depth - 1) w)) l.text l.table l.i l.n l.k l.initial.sheet l.sheet l.at l.o
-
-abbrev pub decreases-loop-k : goal.decreases-loop-k
-decreases-loop-k l = l.n - l.k
+invariant-loop-k l =
+    Laying (Leaves Value (l.depth - 1)) (λ w. lay_values (l.depth - 1) (nest_of value_of (l.depth - 1) w)) l.text l.table l.i l.k-iterator
+    l.initial.sheet l.sheet l.at l.o

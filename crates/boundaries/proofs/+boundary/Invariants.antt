@@ -1,6 +1,6 @@
 -- `boundaries::boundary` meets its contract. The measure is the depth.
 use Rattle.std.proofs.Common.{◌++◌, ◌-◌}
-use Rattle.shapes.specs.Laws.{Pass}
+use Rattle.shapes.specs.Laws.{Passing}
 use Rattle.shapes.specs.Shapes as shape
 use Rattle.boundaries.proofs.+boundary.Given as goal
 
@@ -8,7 +8,4 @@ abbrev pub decreases-boundary : goal.decreases-boundary
 decreases-boundary l = l.depth
 
 abbrev pub invariant-loop-k : goal.invariant-loop-k
-invariant-loop-k l = Pass (λ w. shape.shaped (l.depth - 1) w ++ shape.ranged l.count (l.depth - 1) w) l.text l.table l.i l.best l.n l.k l.least
-
-abbrev pub decreases-loop-k : goal.decreases-loop-k
-decreases-loop-k l = l.n - l.k
+invariant-loop-k l = Passing (λ w. shape.shaped (l.depth - 1) w ++ shape.ranged l.count (l.depth - 1) w) l.text l.table l.i l.best l.k-iterator l.least

@@ -7,8 +7,5 @@ use Rattle.boundaries.proofs.+matches.Given as goal
 abbrev pub decreases-matches : goal.decreases-matches
 decreases-matches l = l.depth
 
-abbrev pub invariant-loop-k : goal.invariant-loop-k
-invariant-loop-k l = Both (shape.matches (l.depth - 1)) l.text l.table l.b l.v l.best l.n l.j l.k l.least
-
-abbrev pub decreases-loop-k : goal.decreases-loop-k
-decreases-loop-k l = l.n - l.k
+abbrev pub invariant-loop-j : goal.invariant-loop-j
+invariant-loop-j l = Both (shape.matches (l.depth - 1)) l.text l.table l.b l.v l.best l.j-iterator.a l.j-iterator.b l.least

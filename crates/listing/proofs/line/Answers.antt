@@ -2,8 +2,8 @@
 use Rattle.listing.proofs.Rules.{lists}
 use Rattle.listing.proofs.line.Goals as goal
 
-pub returns-in-Laid : goal.returns-in-Laid
-returns-in-Laid c = search lists
+pub returns-in-Ok : goal.returns-in-Ok
+returns-in-Ok c = search lists
 
-pub returns-in-Refused : goal.returns-in-Refused
-returns-in-Refused c = search lists
+pub returns-in-Err : goal.returns-in-Err
+returns-in-Err c = search lists

@@ -1,0 +1,16 @@
+use Rattle.arrays.specs.Laws.{laying-item, laying-turn}
+use Rattle.arrays.proofs.Nodes.{pairs-done}
+use Rattle.arrays.proofs.Rules.{arrays}
+use Rattle.arrays.proofs.pairs.Goals as goal
+
+pub loop-k-init : goal.loop-k-init
+loop-k-init c = search arrays
+
+pub pair-o-requires : goal.pair-o-requires
+pair-o-requires c = laying-item c.loop-k.invariant c.in-Some.ensures.steps
+
+pub loop-k-preserved : goal.loop-k-preserved
+loop-k-preserved c = laying-turn c.loop-k.invariant c.in-Some.ensures.steps c.pair-o.ensures
+
+pub returns : goal.returns
+returns c = pairs-done c.requires c.loop-k.invariant c.in-None.ensures.steps.0

@@ -1,0 +1,7 @@
+use Rattle.utf8.specs.Ascii.{ascii}
+use Rattle.geometry_records.proofs.Rules.{geometries}
+use Rattle.geometry_records.proofs.surface_body.Goals as goal
+
+pub returns : goal.returns
+unfolding ascii
+returns c = search geometries
