@@ -74,7 +74,8 @@ fn hash(text: &[u8], at: usize, end: usize) -> u32
     let mut h = 0;
     for i in at..end {
         let b = text[i];
-        if b == b'\\' {
+        let escape = b == b'\\';
+        if escape {
             return hash_ahead(Decoder::new(text, i, end), h);
         }
         h = mixed(h, b);

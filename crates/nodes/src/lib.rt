@@ -155,7 +155,8 @@ pub fn member(text: &[u8], table: &[u32], i: usize, name: &[u8]) -> Option<usize
     requires { Node text.now table.now i }
     ensures { Seeks (λ v. first_named name.now (members v)) text.now table.now i result }
 {
-    for key in names(text, table, i) {
+    let keys = names(text, table, i);
+    for key in keys {
         let from = start(table, key);
         let to = end(table, key);
         if compare::is_word(text, from + 1, to - 1, name) {

@@ -249,7 +249,8 @@ fn gap(a: u128, b: u128) -> Option<i64>
     ensures { Reaches (sub_ℕ a b) result }
 {
     let size = a.abs_diff(b);
-    if size > REACH {
+    let beyond = size > REACH;
+    if beyond {
         return None;
     }
     Some(with_sign(a < b, size as u64))

@@ -7,12 +7,12 @@ use crate::{Escape, encoded, escape_at};
 // next one in its lowest eight bits, and `left` how many they are.
 #[derive(Drop)]
 pub struct Decoder<'a> {
-    text: &'a [u8],
-    at: usize,
-    end: usize,
-    word: u32,
-    left: u32,
-    ghost span: { Span text.now at end },
+    pub text: &'a [u8],
+    pub at: usize,
+    pub end: usize,
+    pub word: u32,
+    pub left: u32,
+    pub ghost span: { Span text.now at end },
 }
 
 impl<'a> Decoder<'a> {

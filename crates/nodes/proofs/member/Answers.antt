@@ -2,7 +2,7 @@ use Rattle.nodes.proofs.Loops.{key-first, key-second, key-some, key-span, member
 use Rattle.nodes.proofs.member.Goals as goal
 
 pub loop-key-init : goal.loop-key-init
-loop-key-init c = member-begin c.requires c.names-key-items.ensures.whole c.into_iter-key-iterator.ensures.into_iter_gives
+loop-key-init c = member-begin c.requires c.names-keys.ensures.whole c.into_iter-key-iterator.ensures.into_iter_gives
 
 pub start-from-requires : goal.start-from-requires
 start-from-requires c = key-first c.loop-key.invariant c.in-Some.ensures.steps

@@ -2,8 +2,8 @@
 use Rattle.numerals.proofs.Powers.{beyond, ranged}
 use Rattle.numerals.proofs.gap.Goals as goal
 
-pub returns-then-size-gt-REACH : goal.returns-then-size-gt-REACH
-returns-then-size-gt-REACH c = beyond _ _ c.abs_diff-size.ensures c.if-size-gt-REACH.true
+pub returns-then-beyond : goal.returns-then-beyond
+returns-then-beyond c = beyond _ _ c.abs_diff-size.ensures c.if-beyond.true
 
 pub returns : goal.returns
-returns c = ranged _ _ c.abs_diff-size.ensures c.if-size-gt-REACH.false c.with_sign.ensures
+returns c = ranged _ _ c.abs_diff-size.ensures c.if-beyond.false c.with_sign.ensures
