@@ -123,6 +123,9 @@ module _ {raw : List ℕ} {n i : ℕ} (p : Counts raw n i) where
       let e : natural n (digits (drop i raw)) ≡ n = rw (drop_of_length-le raw h) refl in
       omega (arith, p.fits, p.same)
 
+  pub counts-full : n ≡ 2 ^ 64 - 1 → n ≡ saturated raw
+  counts-full e = omega (arith, e, natural-low n (digits (drop i raw)), p.same)
+
   module _ (h : i < length raw) where
     pub counts-same : {k : ℕ} → false ≡ is_digit (get_or raw i 0) → k ≡ n → Counts raw k (i + 1)
     counts-same e q =

@@ -65,12 +65,16 @@ fn is_negative(raw: &[u8]) -> bool
     matches!(raw, [b'-', ..])
 }
 
-// The number that the digits write, at most 2^64 - 1.
+// The number that the digits write, at most 2^64 - 1. What comes after that is not read.
 fn magnitude(raw: &[u8]) -> u64
     ensures { result ≡ saturated raw.now }
 {
     let mut n: u64 = 0;
     for b in raw {
+        let full = n == u64::MAX;
+        if full {
+            return n;
+        }
         if let Some(d) = digit(*b) {
             n = n.saturating_mul(10).saturating_add(d);
         }

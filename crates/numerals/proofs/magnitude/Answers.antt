@@ -1,11 +1,14 @@
--- One byte more.
+-- One byte more, or none once the number is 2^64 - 1.
 use Rattle.std.proofs.Common.{arith, sym, ◌∙◌}
-use Rattle.numerals.proofs.Bytes.{counts_start, counts_end, counts-more, counts-same, digit-value, digit-none}
+use Rattle.numerals.proofs.Bytes.{counts_start, counts_end, counts-full, counts-more, counts-same, digit-value, digit-none}
 use Rattle.numerals.proofs.magnitude.Goals.{in-Some, in_default}
 use Rattle.numerals.proofs.magnitude.Goals as goal
 
 pub loop-b-init : goal.loop-b-init
 loop-b-init c = counts_start _
+
+pub returns-then-full : goal.returns-then-full
+returns-then-full c = counts-full c.loop-b.invariant c.if-full.true
 
 pub loop-b-preserved : goal.loop-b-preserved
 loop-b-preserved c =
