@@ -1,28 +1,23 @@
 -- Comparing strings as they stand.
 use Prim.Native.Nat.{ℕ, ◌+◌, ◌-◌, ◌≤◌, ◌<◌}
 use native.Mathlib.Omega.{arith}
-use mathlib.Core.Path.{◌≡◌, refl, ap, ◌∙◌}
+use mathlib.Core.Path.{◌≡◌, refl, ap, sym, subst, ◌∙◌}
 use mathlib.Core.Bool.{Bool, true, false, not}
 use mathlib.Core.List.{List, [], ◌∷◌}
-use lib.ListN.{length, get_or, take, drop, drop_of_length-le}
+use lib.ListN.{length, get_or, take, drop, drop_of_length-le, length-take, length-drop}
 use native.Mathlib.Numerals.{add-one}
-use lib.Seq.{drop-cons}
+use lib.Seq.{drop-cons, drop-drop, slice}
+use Rattle.std.specs.Prelude.{min}
+use Rattle.std.proofs.lemmas.List.{drop-take, take_rest}
 use lib.Dec.{eqb}
 use borrow.Author.Tests.{lt-ltb, le-ltb, eq-eqb, ne_eqb}
 use Rattle.utf8.specs.Utf8.{same}
 use Rattle.strings.specs.Strings.{decode, pieces, decoded}
 use Rattle.strings.specs.Spans.{Span, decode_at, begin_apart}
-use Rattle.compare.specs.Says.{TellsSame}
+use Rattle.compare.specs.Says.{TellsSame, Alike}
 use Rattle.strings.specs.Laws.{plain_byte, taken}
 
--- two strings that are alike before k, with no backslash there
-pub record Prefix (l m : List ℕ) (k : ℕ) : Type 0 where
-  pub first : k ≤ length l
-  pub second : k ≤ length m
-  pub word : same l (decode m) ≡ same (drop k l) (decode (drop k m))
-  pub string : same (decode l) (decode m) ≡ same (decode (drop k l)) (decode (drop k m))
-
-pub prefix-start : (l m : List ℕ) → Prefix l m 0
+pub prefix-start : (l m : List ℕ) → Alike l m 0
 prefix-start l m = record { first = omega arith; second = omega arith; word = refl; string = refl }
 
 -- the next byte of a string
@@ -33,7 +28,11 @@ nothing : decode [] ≡ []
 unfolding decode pieces decoded
 nothing = refl
 
-module _ {l m : List ℕ} {k : ℕ} (p : Prefix l m k) where
+module _ {l m : List ℕ} {k : ℕ} (p : Alike l m k) where
+  -- the loop over the shorter one has ended
+  pub prefix-least : {n : ℕ} → n ≡ min (length l) (length m) → n ≤ k → Alike l m n
+  prefix-least e h = let z : k ≡ _ = omega (arith, p.first, p.second) in subst (Alike l m) z p
+
   pub prefix-all : length l ≤ k → length m ≤ k → TellsSame l m true
   unfolding same
   prefix-all f g =
@@ -48,7 +47,7 @@ module _ {l m : List ℕ} {k : ℕ} (p : Prefix l m k) where
     other : decode (drop k m) ≡ get_or m k 0 ∷ decode (drop (k + 1) m)
     other = ap decode (next-byte m k g) ∙ plain_byte (get_or m k 0) (drop (k + 1) m) o
 
-    prefix-more : get_or l k 0 ≡ get_or m k 0 → Prefix l m (k + 1)
+    prefix-more : get_or l k 0 ≡ get_or m k 0 → Alike l m (k + 1)
     unfolding same
     prefix-more e =
         let t : eqb (get_or l k 0) (get_or m k 0) ≡ true = eq-eqb (get_or l k 0) (get_or m k 0) e in
@@ -66,7 +65,7 @@ module _ {l m : List ℕ} {k : ℕ} (p : Prefix l m k) where
         record { word = rw (p.word, next-byte l k f, other, t); string = rw (p.string, one, other, t) }
 
   -- the next bytes are alike
-  pub prefix-on : k < length l → k < length m → (get_or l k 0 ≡ 92 → ⊥) → get_or l k 0 ≡ get_or m k 0 → Prefix l m (k + 1)
+  pub prefix-on : k < length l → k < length m → (get_or l k 0 ≡ 92 → ⊥) → get_or l k 0 ≡ get_or m k 0 → Alike l m (k + 1)
   prefix-on f g n e = prefix-more f g n (λ z. n (e ∙ z)) e
 
 -- what is told of two strings of a text
@@ -74,6 +73,46 @@ module _ {x : List ℕ} {at end : ℕ} (s : Span x at end) {w : List ℕ} {r : B
   pub told-word : TellsSame w (take (end - at) (drop at x)) r → r ≡ same w (decode_at x at end)
   unfolding decode_at
   told-word t = rw (taken s) at t.word
+
+-- the bytes of what is left of a string after its first k
+later : {x : List ℕ} {at end k : ℕ} → Span x at end → k ≤ end - at → drop k (take (end - at) (drop at x)) ≡ slice (at + k) end x
+later {x} {at} {end} {k} s h =
+    let e : end - at ≡ k + (end - (at + k)) = omega (arith, h, s.low) in
+    ap (λ n. drop k (take n (drop at x))) e
+    ∙ drop-take k (end - (at + k)) (drop at x)
+    ∙ ap (take (end - (at + k))) (drop-drop k at x)
+    ∙ taken (record { low = omega (arith, h, s.low); high = s.high })
+
+room : {x : List ℕ} {at end : ℕ} → Span x at end → length (take (end - at) (drop at x)) ≡ end - at
+room s = rw (length-take, length-drop) (omega (arith, s.low, s.high))
+
+-- what follows tells the rest
+module _ {x : List ℕ} {at end : ℕ} (s : Span x at end) {k : ℕ} where
+  module _ {w : List ℕ} (p : Alike w (take (end - at) (drop at x)) k) where
+    pub inside-word : k ≤ end - at
+    inside-word = omega (arith, p.second, room s)
+
+    pub rest-word : {r : Bool} → r ≡ same (take (length w - k) (drop k w)) (decode_at x (at + k) end) → r ≡ same w (decode_at x at end)
+    unfolding decode_at
+    rest-word q = q ∙ ap (λ v. same v (decode (slice (at + k) end x))) (take_rest w k) ∙ sym (ap (λ m. same w (decode m)) (sym (taken s)) ∙ p.word ∙ ap (λ m. same (drop k w) (decode m)) (later s inside-word))
+
+  module _ {at2 end2 : ℕ} (t : Span x at2 end2) (p : Alike (take (end - at) (drop at x)) (take (end2 - at2) (drop at2 x)) k) where
+    pub inside-first : k ≤ end - at
+    inside-first = omega (arith, p.first, room s)
+
+    pub inside-second : k ≤ end2 - at2
+    inside-second = omega (arith, p.second, room t)
+
+    pub rest-string : {r : Bool} → r ≡ same (decode_at x (at + k) end) (decode_at x (at2 + k) end2) → r ≡ same (decode_at x at end) (decode_at x at2 end2)
+    unfolding decode_at
+    rest-string q =
+        let e : same (decode (take (end - at) (drop at x))) (decode (take (end2 - at2) (drop at2 x))) ≡ same (decode (slice (at + k) end x)) (decode (slice (at2 + k) end2 x)) =
+        p.string
+        ∙ ap (λ l. same (decode l) (decode (drop k (take (end2 - at2) (drop at2 x))))) (later s inside-first)
+        ∙ ap (λ m. same (decode (slice (at + k) end x)) (decode m)) (later t inside-second)
+        in
+        let f : same (decode (slice at end x)) (decode (slice at2 end2 x)) ≡ same (decode (slice (at + k) end x)) (decode (slice (at2 + k) end2 x)) = rw (taken s, taken t) at e in
+        q ∙ sym f
 
 pub told-string : {x : List ℕ} {at end at2 end2 : ℕ} → Span x at end → Span x at2 end2 → {r : Bool} → TellsSame (take (end - at) (drop at x)) (take (end2 - at2) (drop at2 x)) r → r ≡ same (decode_at x at end) (decode_at x at2 end2)
 unfolding decode_at
