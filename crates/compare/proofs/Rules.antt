@@ -1,9 +1,9 @@
 -- What `search` is handed to close what the functions leave.
 use borrow.Author.Rules.{rules}
-use Rattle.compare.proofs.Scans.{prefix-start, prefix-all, prefix-on, prefix-wrong, prefix-least, told-word, told-string, rest-word, rest-string, apart_none, apart-none2, apart-alike, apart-slash, apart-second}
+use Rattle.compare.proofs.Scans.{prefix-start, prefix-all, prefix-on, prefix-wrong, prefix-least, told-word, told-string, apart_none, apart-none2, apart-alike, apart-slash, apart-second}
 
 -- strings as they stand
-pub ruleset prefixes = (prefix-start, prefix-all, prefix-on, prefix-wrong, prefix-least, told-word, told-string, rest-word, rest-string)
+pub ruleset prefixes = (prefix-start, prefix-all, prefix-on, prefix-wrong, prefix-least, told-word, told-string)
 
 -- the first bytes of two strings
 pub ruleset aparts = (apart_none, apart-none2, apart-alike, apart-slash, apart-second)

@@ -4,18 +4,18 @@ use native.Mathlib.Omega.{arith}
 use mathlib.Core.Path.{◌≡◌, refl, ap, sym, subst, ◌∙◌}
 use mathlib.Core.Bool.{Bool, true, false, not}
 use mathlib.Core.List.{List, [], ◌∷◌}
-use lib.ListN.{length, get_or, take, drop, drop_of_length-le, length-take, length-drop}
+use lib.ListN.{length, get_or, take, drop, drop_of_length-le}
 use native.Mathlib.Numerals.{add-one}
-use lib.Seq.{drop-cons, drop-drop, slice}
+use lib.Seq.{drop-cons, slice}
 use Rattle.std.specs.Prelude.{min}
-use Rattle.std.proofs.lemmas.List.{drop-take, take_rest}
+use Rattle.std.proofs.lemmas.List.{take_rest}
 use lib.Dec.{eqb}
 use borrow.Author.Tests.{lt-ltb, le-ltb, eq-eqb, ne_eqb}
 use Rattle.utf8.specs.Utf8.{same}
 use Rattle.strings.specs.Strings.{decode, pieces, decoded}
 use Rattle.strings.specs.Spans.{Span, decode_at, begin_apart}
 use Rattle.compare.specs.Says.{TellsSame, Alike}
-use Rattle.strings.specs.Laws.{plain_byte, taken}
+use Rattle.strings.specs.Laws.{plain_byte, taken, taken-size, taken-later}
 
 pub prefix-start : (l m : List ℕ) → Alike l m 0
 prefix-start l m = record { first = omega arith; second = omega arith; word = refl; string = refl }
@@ -74,42 +74,30 @@ module _ {x : List ℕ} {at end : ℕ} (s : Span x at end) {w : List ℕ} {r : B
   unfolding decode_at
   told-word t = rw (taken s) at t.word
 
--- the bytes of what is left of a string after its first k
-later : {x : List ℕ} {at end k : ℕ} → Span x at end → k ≤ end - at → drop k (take (end - at) (drop at x)) ≡ slice (at + k) end x
-later {x} {at} {end} {k} s h =
-    let e : end - at ≡ k + (end - (at + k)) = omega (arith, h, s.low) in
-    ap (λ n. drop k (take n (drop at x))) e
-    ∙ drop-take k (end - (at + k)) (drop at x)
-    ∙ ap (take (end - (at + k))) (drop-drop k at x)
-    ∙ taken (record { low = omega (arith, h, s.low); high = s.high })
-
-room : {x : List ℕ} {at end : ℕ} → Span x at end → length (take (end - at) (drop at x)) ≡ end - at
-room s = rw (length-take, length-drop) (omega (arith, s.low, s.high))
-
 -- what follows tells the rest
 module _ {x : List ℕ} {at end : ℕ} (s : Span x at end) {k : ℕ} where
   module _ {w : List ℕ} (p : Alike w (take (end - at) (drop at x)) k) where
     pub inside-word : k ≤ end - at
-    inside-word = omega (arith, p.second, room s)
+    inside-word = omega (arith, p.second, taken-size s)
 
     pub rest-word : {r : Bool} → r ≡ same (take (length w - k) (drop k w)) (decode_at x (at + k) end) → r ≡ same w (decode_at x at end)
     unfolding decode_at
-    rest-word q = q ∙ ap (λ v. same v (decode (slice (at + k) end x))) (take_rest w k) ∙ sym (ap (λ m. same w (decode m)) (sym (taken s)) ∙ p.word ∙ ap (λ m. same (drop k w) (decode m)) (later s inside-word))
+    rest-word q = q ∙ ap (λ v. same v (decode (slice (at + k) end x))) (take_rest w k) ∙ sym (ap (λ m. same w (decode m)) (sym (taken s)) ∙ p.word ∙ ap (λ m. same (drop k w) (decode m)) (taken-later s inside-word))
 
   module _ {at2 end2 : ℕ} (t : Span x at2 end2) (p : Alike (take (end - at) (drop at x)) (take (end2 - at2) (drop at2 x)) k) where
     pub inside-first : k ≤ end - at
-    inside-first = omega (arith, p.first, room s)
+    inside-first = omega (arith, p.first, taken-size s)
 
     pub inside-second : k ≤ end2 - at2
-    inside-second = omega (arith, p.second, room t)
+    inside-second = omega (arith, p.second, taken-size t)
 
     pub rest-string : {r : Bool} → r ≡ same (decode_at x (at + k) end) (decode_at x (at2 + k) end2) → r ≡ same (decode_at x at end) (decode_at x at2 end2)
     unfolding decode_at
     rest-string q =
         let e : same (decode (take (end - at) (drop at x))) (decode (take (end2 - at2) (drop at2 x))) ≡ same (decode (slice (at + k) end x)) (decode (slice (at2 + k) end2 x)) =
         p.string
-        ∙ ap (λ l. same (decode l) (decode (drop k (take (end2 - at2) (drop at2 x))))) (later s inside-first)
-        ∙ ap (λ m. same (decode (slice (at + k) end x)) (decode m)) (later t inside-second)
+        ∙ ap (λ l. same (decode l) (decode (drop k (take (end2 - at2) (drop at2 x))))) (taken-later s inside-first)
+        ∙ ap (λ m. same (decode (slice (at + k) end x)) (decode m)) (taken-later t inside-second)
         in
         let f : same (decode (slice at end x)) (decode (slice at2 end2 x)) ≡ same (decode (slice (at + k) end x)) (decode (slice (at2 + k) end2 x)) = rw (taken s, taken t) at e in
         q ∙ sym f

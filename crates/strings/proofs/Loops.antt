@@ -8,7 +8,7 @@ use lib.Dec.{leb}
 use mathlib.Core.List.{List, [], ◌∷◌, ◌++◌, append_assoc, append-nil}
 use Rattle.std.specs.Prelude.{Option, None, Some}
 use lib.ListN.{length, get_or, take, drop, set, length-set, take-append-drop}
-use lib.Seq.{take-suc-set, drop-set-lt}
+use lib.Seq.{take-suc, take-suc-set, take_all, drop-set-lt}
 use Rattle.strings.specs.Spans.{Span, unpaired_at, Copied, first_of}
 use Rattle.strings.specs.Parts.{Escapes}
 use Rattle.strings.specs.declared.Escape.{Escape}
@@ -51,6 +51,25 @@ module _ {l m d₀ d : List ℕ} {to o : ℕ} (w : Writing l m d₀ d to o) wher
           room = omega (arith, w.room, length-set d o b);
           bytes = rw (add-one o, t, f, append_assoc (take o d) (b ∷ []) m') g;
         }
+
+-- the first k bytes are those of s
+pub record Over (d s : List ℕ) (k : ℕ) : Type 0 where
+  pub size : length d ≡ length s
+  pub done : take k d ≡ take k s
+
+pub over-start : (d s : List ℕ) → length d ≡ length s → Over d s 0
+over-start d s e = record { size = e; done = refl }
+
+module _ {d s : List ℕ} {k : ℕ} (v : Over d s k) where
+  pub over-more : k < length s → Over (set d k (get_or s k 0)) s (k + 1)
+  over-more l =
+      record {
+        size = length-set d k (get_or s k 0) ∙ v.size;
+        done = rw (add-one k, take-suc-set d k (get_or s k 0) (omega (arith, l, v.size)), take-suc s k 0 l) (ap (λ m. m ++ (get_or s k 0 ∷ [])) v.done);
+      }
+
+  pub over-end : length s ≤ k → d ≡ s
+  over-end l = sym (take_all k d (omega (arith, l, v.size))) ∙ v.done ∙ take_all k s l
 
 -- the first unpaired surrogate
 module _ (f : Option ℕ) {x : List ℕ} {at end : ℕ} (e : f ≡ first_of (unpaired_at x at end)) (s : Span x at end) where

@@ -4,7 +4,7 @@ use Rattle.strings.proofs.Bytes.{hex-digit, hex-upper, hex-lower, unit-is, paire
 use Rattle.strings.specs.Laws.{onward}
 use Rattle.strings.proofs.Escapes.{half-few, half-plain, half-short, half-under, half_over, half_is, half-least, half-most, long-under, long-over, long-missing, long-pair, cut-two, cut-six, short-is, short-span, short-within, long-span, long-past, long-less, long-small}
 use Rattle.strings.proofs.Steps.{next-none, next-plain, next-cut, next-short, next-long, begun-next}
-use Rattle.strings.proofs.Scans.{plain_size, plain-room, plain-copied}
+use Rattle.strings.proofs.Scans.{past-start, past-more, past-here, past-end, plain-none}
 use Rattle.strings.proofs.Loops.{writing_start, writing-done, writing-room, writing_more, found-end, found_plain, found-cut, found-short, found-long, found_here}
 
 -- hexadecimal digits
@@ -31,7 +31,7 @@ pub ruleset onwards = (onward, short-span, short-within, long-span, long-past, l
 pub ruleset steps = (rules, onwards, next-none, next-plain, next-cut, next-short, next-long, begun-next)
 
 -- a copy
-pub ruleset copies = (rules, plain_size, plain-room, plain-copied, writing_start, writing-done, writing-room, writing_more)
+pub ruleset copies = (rules, past-start, past-more, past-here, past-end, plain-none, writing_start, writing-done, writing-room, writing_more)
 
 -- where a search for an unpaired surrogate goes on
 pub ruleset finds = (rules, onwards, found-end, found_plain, found-cut, found-short, found-long, found_here)

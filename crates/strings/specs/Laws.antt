@@ -5,9 +5,9 @@ use Rattle.std.proofs.Common.{add-one, arith, sym, ◌∙◌, subst, ⊎_elim, l
 use Rattle.std.proofs.Math.Path.{ap}
 use mathlib.Core.List.Memᴰ
 use mathlib.Core.List.{List, [], ◌∷◌, ◌++◌, append-nil, Memᴰ}
-use Rattle.std.proofs.Math.Seq.{slice, slice-cons, length-slice}
+use Rattle.std.proofs.Math.Seq.{slice, slice-cons, length-slice, drop-drop}
 use Rattle.std.proofs.lemmas.Bool.{not-true, eqb-false}
-use Rattle.std.proofs.lemmas.List.{drop-take}
+use Rattle.std.proofs.lemmas.List.{drop-take, length-take, length-drop}
 use Rattle.std.specs.Iterator.{YieldsFirst, MakesProgress, at_most}
 use Rattle.utf8.specs.Bytes.{le}
 use Rattle.utf8.specs.Utf8.{encode, same}
@@ -158,6 +158,19 @@ module _ {x : List ℕ} {at end : ℕ} (s : Span x at end) where
 -- the bytes of a string, as code takes them out of the text
 pub taken : {x : List ℕ} {at end : ℕ} → Span x at end → take (end - at) (drop at x) ≡ slice at end x
 taken {x} {at} {end} s = let e : at + (end - at) ≡ end = omega (arith, s.low) in sym (drop-take at (end - at) x) ∙ rw e
+
+-- as many as there are
+pub taken-size : {x : List ℕ} {at end : ℕ} → Span x at end → length (take (end - at) (drop at x)) ≡ end - at
+taken-size s = rw (length-take, length-drop) (omega (arith, s.low, s.high))
+
+-- what is left of them after the first k
+pub taken-later : {x : List ℕ} {at end k : ℕ} → Span x at end → k ≤ end - at → drop k (take (end - at) (drop at x)) ≡ slice (at + k) end x
+taken-later {x} {at} {end} {k} s h =
+    let e : end - at ≡ k + (end - (at + k)) = omega (arith, h, s.low) in
+    ap (λ n. drop k (take n (drop at x))) e
+    ∙ drop-take k (end - (at + k)) (drop at x)
+    ∙ ap (take (end - (at + k))) (drop-drop k at x)
+    ∙ taken (record { low = omega (arith, h, s.low); high = s.high })
 
 -- the same, where the tests are Booleans
 first-stands : {x : List ℕ} {at end : ℕ} → Span x at end → ltb at end ≡ true → not (eqb (get_or x at 0) 92) ≡ true

@@ -1,8 +1,8 @@
 -- What the inner functions tell of the escape at an offset.
-use Rattle.std.specs.Prelude.{ℕ, ◌+◌, ◌*◌, ◌≤◌, ◌<◌, ◌≡◌, Bool, false, List, [], ◌∷◌, ◌++◌, Option, Some, None, get_or}
+use Rattle.std.specs.Prelude.{ℕ, ◌+◌, ◌*◌, ◌≤◌, ◌<◌, ◌≡◌, Bool, false, List, [], ◌∷◌, ◌++◌, Option, Some, None, length, get_or, take, drop}
 use Rattle.std.proofs.Math.Seq.{slice}
 use Rattle.utf8.specs.Utf8.{encode}
-use Rattle.strings.specs.Strings.{Piece, byte, unit, plain, pieces, hex_value, is_low, alone}
+use Rattle.strings.specs.Strings.{decode, Piece, byte, unit, plain, pieces, hex_value, is_low, alone}
 use Rattle.strings.specs.Spans.{decode_at, unpaired_at}
 use Rattle.strings.specs.declared.Escape.{Escape}
 use Rattle.strings.specs.declared.Escape.TheVariants.{Short, Long}
@@ -60,3 +60,9 @@ unfoldable pub Escapes : List ℕ → ℕ → ℕ → Option Escape → Type 0
 Escapes x at end None = IsCut x at end
 Escapes x at end (Some (Short b)) = IsShort x at end b
 Escapes x at end (Some (Long u to)) = IsLong x at end u to
+
+-- the first n bytes of a string stand for themselves, and then comes a backslash or the end
+pub record Plain (raw : List ℕ) (n : ℕ) : Type 0 where
+  pub within : n ≤ length raw
+  pub stands : decode raw ≡ take n raw ++ decode (drop n raw)
+  pub then : n < length raw → get_or raw n 0 ≡ 92

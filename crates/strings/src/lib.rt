@@ -1,12 +1,13 @@
 // Strings of JSON texts (RFC 8259, section 7). A string is given by the text and two offsets: `at`, just after its opening quote, and `end`, its closing quote.
 #![tactic(auto)]
 
-ghost use Rattle.std.specs.Prelude.{◌+◌, ◌-◌, ◌%◌, ◌≤◌, ◌<◌, ◌≡◌, ◌&&◌, length, get_or, leb, Some};
+ghost use Rattle.std.specs.Prelude.{◌+◌, ◌-◌, ◌%◌, ◌^◌, ◌≤◌, ◌<◌, ◌≡◌, ◌&&◌, length, get_or, leb, Some};
 ghost use Rattle.utf8.specs.Bytes.{le};
 ghost use Rattle.utf8.specs.Utf8.{encode};
 ghost use Rattle.strings.specs.Strings.{hex_value, escaped, paired};
 ghost use Rattle.strings.specs.Spans.{Span, decode_at, unpaired_at, Copied, first_of, has_byte};
-ghost use Rattle.strings.specs.Parts.{unit_at, Halves, Escapes};
+ghost use Rattle.strings.specs.Ahead.{ahead, away};
+ghost use Rattle.strings.specs.Parts.{unit_at, Halves, Escapes, Plain};
 
 mod decoder;
 
@@ -141,15 +142,47 @@ fn encoded(u: u32) -> (u32, u32)
     (0xF0 + u / 262144 + c * 256 + b * 65536 + a * 16777216, 4)
 }
 
-// How many bytes the string stands for. One with no escape stands for its own.
+// How many bytes of a string come before its first backslash. Most strings have none.
+fn plain_length(raw: &[u8]) -> usize
+    ensures { Plain raw.now result }
+{
+    if !has_escape(raw) {
+        return raw.len();
+    }
+    for (k, b) in raw.iter().enumerate() {
+        let escape = *b == b'\\';
+        if escape {
+            return k;
+        }
+    }
+    raw.len()
+}
+
+// How many bytes the decoder has ahead.
+fn ahead_length(rest: Decoder) -> usize
+    requires { away rest < 2 ^ 64 }
+    ensures { result ≡ length (ahead rest.entry) }
+{
+    rest.count()
+}
+
+// How many bytes the string stands for. What comes before a backslash stands for itself.
 pub fn decoded_length(text: &[u8], at: usize, end: usize) -> usize
     requires { Span text.now at end }
     ensures { result ≡ length (decode_at text.now at end) }
 {
-    if !has_escape(&text[at..end]) {
-        return end - at;
+    let n = plain_length(&text[at..end]);
+    n + ahead_length(Decoder::new(text, at + n, end))
+}
+
+// Writes bytes over as many others. Not `copy_from_slice`, for which a program in C would need `memmove` also.
+fn overwrite(part: &mut [u8], bytes: &[u8])
+    requires { length part.old ≡ length bytes.now }
+    ensures { part.new ≡ bytes.now }
+{
+    for k in 0..bytes.len() {
+        part[k] = bytes[k];
     }
-    Decoder::new(text, at, end).count()
 }
 
 // Writes bytes to `out` from `to` on; where they end.
@@ -158,8 +191,22 @@ fn put(bytes: &[u8], out: &mut [u8], to: usize) -> usize
     ensures { Copied bytes.now out.old out.new to result }
 {
     let end = to + bytes.len();
-    out[to..end].copy_from_slice(bytes);
+    overwrite(&mut out[to..end], bytes);
     end
+}
+
+// Writes the bytes that the decoder has ahead to `out` from `to` on; where they end.
+#[inline(never)]
+fn copy_ahead(rest: Decoder, out: &mut [u8], to: usize) -> usize
+    requires { to + length (ahead rest) ≤ length out.old }
+    ensures { Copied (ahead rest.entry) out.old out.new to result }
+{
+    let mut o = to;
+    for b in rest {
+        out[o] = b;
+        o += 1;
+    }
+    o
 }
 
 // Writes the bytes that the string stands for to `out` from `to` on; where they end.
@@ -167,16 +214,9 @@ pub fn copy(text: &[u8], at: usize, end: usize, out: &mut [u8], to: usize) -> us
     requires { (Span text.now at end) × (to + length (decode_at text.now at end) ≤ length out.old) }
     ensures { Copied (decode_at text.now at end) out.old out.new to result }
 {
-    let plain = &text[at..end];
-    if !has_escape(plain) {
-        return put(plain, out, to);
-    }
-    let mut o = to;
-    for b in Decoder::new(text, at, end) {
-        out[o] = b;
-        o += 1;
-    }
-    o
+    let n = plain_length(&text[at..end]);
+    let o = put(&text[at..at + n], out, to);
+    copy_ahead(Decoder::new(text, at + n, end), out, o)
 }
 
 // Is the character that an escape names a surrogate? Then it is not paired.

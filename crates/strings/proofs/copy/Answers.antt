@@ -1,22 +1,12 @@
--- The turns of a copy.
-use Rattle.strings.proofs.Loops.{writing_more}
-use Rattle.strings.proofs.Rules.{copies}
+-- What comes before the first backslash, and what stands from there on.
+use Rattle.strings.proofs.Scans.{plain-room, plain-rest, copied-both}
 use Rattle.strings.proofs.copy.Goals as goal
 
-pub loop-b-init : goal.loop-b-init
-loop-b-init c = search copies
+pub put-o-requires : goal.put-o-requires
+put-o-requires c = plain-room c.requires.0 c.plain_length-n.ensures _ _ c.requires.1
 
-pub bounds-out-o : goal.bounds-out-o
-bounds-out-o c = search copies
-
-pub loop-b-preserved : goal.loop-b-preserved
-loop-b-preserved c = writing_more c.loop-b.invariant c.in-Some.b _ c.in-Some.ensures.steps
+pub copy_ahead-requires : goal.copy_ahead-requires
+copy_ahead-requires c = plain-rest c.requires.0 c.plain_length-n.ensures c.requires.1 c.put-o.ensures c.new.ensures.bytes
 
 pub returns : goal.returns
-returns c = search copies
-
-pub put-requires : goal.put-requires
-put-requires c = search copies
-
-pub returns-then-not-has_escape : goal.returns-then-not-has_escape
-returns-then-not-has_escape c = search copies
+returns c = copied-both c.requires.0 c.plain_length-n.ensures c.requires.1 c.put-o.ensures c.new.ensures.bytes c.copy_ahead.ensures
