@@ -98,6 +98,29 @@ fn words(header: &str) -> BTreeMap<u32, String> {
     words
 }
 
+/// `nm` comes with the C compiler.
+#[test]
+fn the_library_needs_of_others_what_the_header_says() {
+    let run = Command::new("nm")
+        .arg("-u")
+        .arg(library())
+        .output()
+        .expect("nm");
+    assert!(
+        run.status.success(),
+        "{}",
+        String::from_utf8_lossy(&run.stderr)
+    );
+    let said = String::from_utf8(run.stdout).expect("names");
+    let needed: Vec<&str> = said
+        .lines()
+        .filter_map(|line| line.trim_start().strip_prefix("U "))
+        .collect();
+    assert_eq!(needed, ["memcpy", "memset"]);
+    let header = fs::read_to_string(header()).expect("the header");
+    assert!(header.contains("Of other libraries it needs C's memcpy and memset alone."));
+}
+
 #[test]
 fn the_crate_has_the_rules_of_the_header() {
     let header = fs::read_to_string(header()).expect("the header");
