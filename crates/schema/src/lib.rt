@@ -294,15 +294,12 @@ pub fn root(text: &[u8], table: &[u32], best: u32) -> Walked
     ensures gives { Gives (λ v. least best (city_json v)) text.now table.now 0 result.least }
     ensures indexed_at { IndexedAt text.now table.now result.index }
 {
-    let mut walked = Walked {
-        index: Index {
-            offsets: [0; 1024],
-            count: 0,
-        },
-        least: best,
-    };
     let objects = nodes::member(text, table, 0, b"CityObjects");
-    let extra = fill_index(text, table, objects, &mut walked.index);
-    walked.least = city_json(text, table, objects, extra, best);
-    walked
+    let mut index = Index {
+        offsets: [0; 1024],
+        count: 0,
+    };
+    let extra = fill_index(text, table, objects, &mut index);
+    let least = city_json(text, table, objects, extra, best);
+    Walked { index, least }
 }

@@ -7,10 +7,10 @@ pub fill_index-extra-requires : goal.fill_index-extra-requires
 unfolding ascii
 fill_index-extra-requires c = search filling
 
-pub city_json-requires : goal.city_json-requires
+pub city_json-least-requires : goal.city_json-least-requires
 unfolding ascii
-city_json-requires c = search filling
+city_json-least-requires c = search filling
 
 pub returns : goal.returns
 unfolding ascii
-returns c = record { gives = gives c.city_json.ensures; indexed_at = search filling }
+returns c = record { gives = gives c.city_json-least.ensures; indexed_at = search filling }
