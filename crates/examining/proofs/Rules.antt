@@ -1,15 +1,14 @@
 -- What the proofs of the functions that examine use.
-use Prim.Native.Nat.{ℕ, ◌-◌, ◌≤◌, ◌<◌}
+use Prim.Native.Nat.{ℕ, ◌≤◌, ◌<◌}
 use native.Mathlib.Omega.{arith}
-use mathlib.Core.Path.{◌≡◌, ap, sym, ◌∙◌, subst}
+use mathlib.Core.Path.{◌≡◌, ap, ◌∙◌, subst}
 use mathlib.Core.List.{List, map}
-use lib.ListN.{length, take, drop}
+use lib.ListN.{length}
 use Rattle.std.specs.Prelude.{Result, Ok, Err}
 use borrow.Author.Rules.{rules}
 use borrow.Author.Tests.{lt-ltb, le-ltb}
 use Rattle.utf8.specs.Utf8.{whole_length}
 use Rattle.utf8.specs.Laws.{clash}
-use Rattle.json_text.specs.Machine.{reads}
 use Rattle.json_text.specs.Tree.{Json}
 use Rattle.json_text.specs.Table.{Sub}
 use Rattle.json_text.specs.Parse.{Tells}
@@ -125,12 +124,12 @@ module _ {x t : List ℕ} {n : ℕ} {w : Walked} (s : Stands x t n) (d : TreeExa
   pub index-few : w.index.count ≤ 1024
   index-few = omega (arith, (d.indexed.is s.value s.stands).count)
 
-  pub examine-linked : {offsets : List ℕ} → no_fault ≤ w.least → offsets ≡ offsets_of w.index → Linked x t offsets
-  examine-linked h e = record {
+  pub examine-linked : no_fault ≤ w.least → Linked x t (offsets_of w.index)
+  examine-linked h = record {
     value = s.value;
     stands = s.stands;
     short = s.short;
-    indexed = rw e (offsets_are h);
+    indexed = offsets_are h;
     alone = alone s.value (no-repeat s.value placed walked h);
   }
 
@@ -138,9 +137,9 @@ module _ {x t : List ℕ} {n : ℕ} {w : Walked} (s : Stands x t n) (d : TreeExa
     pub examine-late : no_fault ≤ w.least → LinksGive x t w.least e → Examined x t (record { index = w.index; least = e })
     examine-late h g = examined s d.indexed (all-passes s.value walked (g.is s.value s.stands))
 
-pub late-rows : {x t offsets : List ℕ} {index : Index} {e : ℕ} {children parents : List ℕ} → offsets ≡ offsets_of index → Rows x t offsets children parents
+pub late-rows : {x t : List ℕ} {index : Index} {e : ℕ} {children parents : List ℕ} → Rows x t (offsets_of index) children parents
     → RowsOf x t (record { index = index; least = e }) children parents
-late-rows q r = record { are = λ k. rw q at r }
+late-rows r = record { are = λ k. r }
 
 pub ruleset opens = (rules, screen-long, screen-odd, screen-passed, open-tree, open-unread)
 

@@ -7,7 +7,7 @@ ghost use Rattle.nodes.specs.Faults.{no_fault};
 ghost use Rattle.verdict.specs.Verdict.{parsed, screening};
 ghost use Rattle.links.specs.Says.{LinksGive};
 ghost use Rattle.refusals.specs.Refusals.{refusal};
-ghost use Rattle.examining.specs.Examining.{screened_as, Room, Stands, Opens, RowRoom, Linked, Rows, offsets_of, TreeExamined, Examined, RowsOf};
+ghost use Rattle.examining.specs.Examining.{screened_as, Room, Stands, Opens, RowRoom, Linked, Rows, offsets_of, Examined, RowsOf};
 
 use fields::Index;
 use nodes::NO_FAULT;
@@ -45,32 +45,26 @@ pub fn offsets(index: &Index) -> &[usize]
     &index.offsets[..index.count]
 }
 
-// Rules 15 to 17 of a text of which the offsets of the city objects are given; the rows of what these list are filled for it.
+// Rules 15 to 17 of a text of which the index of the city objects is given; the rows of what these list are filled for it. The array is copied here,
+// and first of all: the copy's address goes to the calls and the index's own does not, which spares clearings and copies of the index (PROVING.md).
+#[tactic(auto, unfolding(crate::specs::Examining::offsets_of))]
 fn examine_links(
     text: &[u8],
     table: &[u32],
-    offsets: &[usize],
+    index: Index,
     children: &mut [u16],
     parents: &mut [u16],
     best: u32,
 ) -> u32
-    requires { (Linked text.now table.now offsets.now) × (RowRoom text.now table.now children.old)
-        × (RowRoom text.now table.now parents.old) }
+    requires { (Linked text.now table.now (offsets_of index)) × (index.count ≤ 1024)
+        × (RowRoom text.now table.now children.old) × (RowRoom text.now table.now parents.old) }
     ensures links_give { LinksGive text.now table.now best result }
-    ensures rows { Rows text.now table.now offsets.now children.new parents.new }
+    ensures rows { Rows text.now table.now (offsets_of index) children.new parents.new }
 {
+    let all = index.offsets;
+    let offsets = &all[..index.count];
     rows::fill(text, table, offsets, children, parents);
     links::links(text, table, offsets, children, parents, best)
-}
-
-// The least fault of the rules 5 to 14 of a text, whose tree's words are the first n of the table, and the index of its city objects.
-fn examine_tree(text: &[u8], table: &[u32], n: usize) -> Walked
-    requires { Stands text.now table.now n }
-    ensures { TreeExamined text.now table.now result }
-{
-    let a = everywhere::unpaired(text, table, n, NO_FAULT);
-    let b = repeats::repeated(text, table, n, a);
-    schema::root(text, table, b)
 }
 
 // The least fault of the rules 5 to 17 of such a text, and the index of its city objects. Every fault is below NO_FAULT.
@@ -87,12 +81,13 @@ pub fn examine(
     ensures examined { Examined text.now table.now result }
     ensures rows_of { RowsOf text.now table.now result children.new parents.new }
 {
-    let walked = examine_tree(text, table, n);
+    let a = everywhere::unpaired(text, table, n, NO_FAULT);
+    let b = repeats::repeated(text, table, n, a);
+    let walked = schema::root(text, table, b);
     if walked.least < NO_FAULT {
         return walked;
     }
-    let listed = offsets(&walked.index);
-    let least = examine_links(text, table, listed, children, parents, walked.least);
+    let least = examine_links(text, table, walked.index, children, parents, walked.least);
     Walked {
         index: walked.index,
         least,

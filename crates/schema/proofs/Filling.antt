@@ -31,7 +31,7 @@ use Rattle.fields.specs.declared.Index.{Index}
 use Rattle.rules.specs.Schema.{name_fault, object_limit, city_object, city_objects}
 use Rattle.geometry.specs.Says.{Checked}
 use Rattle.geometry.proofs.Lines.{lines, checked, line-object, line-then, line-none}
-use Rattle.schema.specs.Says.{Extra, Named, Limited, ExtraAt, ExtraFound, FillsAt, Fills, IndexedAt}
+use Rattle.schema.specs.Says.{Extra, Named, Limited, ExtraAt, ExtraFound, FillsAt, Empty, Fills, IndexedAt}
 
 -- members of which the index names all but those that are left
 pub record Done (x t : List ℕ) (index : Index) (all left : List Member) : Type 0 where
@@ -57,13 +57,12 @@ front {left = left} d count room clear = record {
   rest = clear;
 }
 
-pub fill-begin : {x t : List ℕ} {i : ℕ} {s r : Siblings} {offsets : List ℕ} → offsets ≡ replicate 1024 0 → Node x t i → Names x t i r → s ≡ r
-    → Filling x t i s (record { offsets = offsets; count = 0 })
-fill-begin {x} {t} {offsets = offsets} l d e q = record {
-  run = names-begin (Done x t (record { offsets = offsets; count = 0 })) d e q (λ ms. record { done = []; whole = refl; many = refl; each = λ j e h. absurd (omega arith) });
-  room = fresh-length 1024 l;
-  few = omega arith;
-  clear = λ j h. fresh-zero 1024 l j;
+pub fill-begin : {x t : List ℕ} {i : ℕ} {s r : Siblings} {index : Index} → Empty index → Node x t i → Names x t i r → s ≡ r → Filling x t i s index
+fill-begin {x} {t} {index = index} l d e q = record {
+  run = names-begin (Done x t index) d e q (λ ms. record { done = []; whole = refl; many = sym l.count; each = λ j e h. absurd (omega (arith, l.count)) });
+  room = fresh-length 1024 l.offsets;
+  few = omega (arith, l.count);
+  clear = λ j h. fresh-zero 1024 l.offsets j;
 }
 
 module _ {x t : List ℕ} {i : ℕ} {s : Siblings} {index : Index} (f : Filling x t i s index) where
@@ -161,15 +160,15 @@ one_more {x} {t} e q g h =
 -- ---- the city objects
 
 -- no members have an empty index
-none-indexed : (x t : List ℕ) (l : List Member) (offsets : List ℕ) → offsets ≡ replicate 1024 0 → l ≡ [] → Indexed x t l (record { offsets = offsets; count = 0 })
-none-indexed x t l offsets h e = record { room = fresh-length 1024 h; count = rw e; each = λ k d r. absurd (omega arith); rest = λ k r. fresh-zero 1024 h k }
+none-indexed : (x t : List ℕ) (l : List Member) {index : Index} → Empty index → l ≡ [] → Indexed x t l index
+none-indexed x t l h e = record { room = fresh-length 1024 h.offsets; count = rw e h.count; each = λ k d r. absurd (omega (arith, h.count)); rest = λ k r. fresh-zero 1024 h.offsets k }
 
 -- nothing was found, or a value
 module _ {x t : List ℕ} {found : Found} where
-  pub fill-nothing : {offsets : List ℕ} → offsets ≡ replicate 1024 0 → found ≡ None → Fills x t found (record { offsets = offsets; count = 0 }) None
+  pub fill-nothing : {index : Index} → Empty index → found ≡ None → Fills x t found index None
   unfolding Finds members_in Extra
-  fill-nothing {offsets} h e =
-      record { indexed = λ o f. none-indexed x t (members_in o) offsets h (empty o f); more = record { is = λ o f. ap (drop 1024) (empty o f) } }
+  fill-nothing h e =
+      record { indexed = λ o f. none-indexed x t (members_in o) h (empty o f); more = record { is = λ o f. ap (drop 1024) (empty o f) } }
     where
       empty : (o : Option Json) → Finds x t o found → members_in o ≡ []
       empty o f = let z : o ≡ none = subst (Finds x t o) e f in ap members_in z
@@ -237,5 +236,9 @@ objects-told n g e l h =
     (line-then (each_member (city_object n) ∷ []) (record { is = λ v s. l.is (drop 1024 (members v)) (e.is v s) })
     (line-then [] (checked (each_member (city_object n)) h) line-none))
 
+-- the index that the root makes
+pub empty-index : {offsets : List ℕ} → offsets ≡ replicate 1024 0 → Empty (record { offsets = offsets; count = 0 })
+empty-index e = record { offsets = e; count = refl }
+
 -- what `search` is handed to close what the root leaves
-pub ruleset filling = (lines, root-indexed)
+pub ruleset filling = (lines, root-indexed, empty-index)

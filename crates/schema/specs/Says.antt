@@ -1,5 +1,5 @@
 -- What the walk over a node table asks and tells.
-use Rattle.std.specs.Prelude.{◌≡◌, List, [], ◌∷◌, length, drop, ℕ, ◌≤◌}
+use Rattle.std.specs.Prelude.{◌≡◌, List, [], ◌∷◌, length, drop, replicate, ℕ, ◌≤◌}
 use Rattle.std.proofs.Math.Option.{Option}
 use Rattle.utf8.specs.Ascii.{ascii}
 use Rattle.json_text.specs.Tree.{Json}
@@ -42,6 +42,11 @@ pub record ExtraAt (x t : List ℕ) (i : ℕ) (extra : Found) : Type 0 where
 
 pub record ExtraFound (x t : List ℕ) (found extra : Found) : Type 0 where
   pub is : (o : Option Json) → Finds x t o found → Extra x t (drop 1024 (members_in o)) extra
+
+-- an index of no members
+pub record Empty (index : Index) : Type 0 where
+  pub offsets : index.offsets ≡ replicate 1024 0
+  pub count : index.count ≡ 0
 
 -- the index of its first 1,024 members, and the node of the name of the next
 pub record FillsAt (x t : List ℕ) (i : ℕ) (index : Index) (extra : Found) : Type 0 where

@@ -15,7 +15,7 @@ ghost use Rattle.rules.specs.Schema.{one_word, object_type, city_json};
 ghost use Rattle.rules.specs.Schema as schema;
 ghost use Rattle.geometry.specs.Says.{Checked, required, MemberFound, TypeAt, CodeAt};
 ghost use Rattle.schema.specs.Says as says;
-ghost use Rattle.schema.specs.Says.{ExtraAt, ExtraFound, Named, Limited, Fills, IndexedAt};
+ghost use Rattle.schema.specs.Says.{ExtraAt, ExtraFound, Named, Limited, Empty, Fills, IndexedAt};
 
 use fields::Index;
 use geometry::{array_of, optional, required, required_found, string_that};
@@ -172,37 +172,24 @@ pub struct Walked {
     pub least: u32,
 }
 
-// The index of the first 1,024 members of an object, and the node of the name of the 1,025th, if there is one.
-#[derive(Drop)]
-struct Filled {
-    index: Index,
-    extra: Option<usize>,
-}
-
-// Fills the index of the city objects that were found; other values have none.
-fn fill_index(text: &[u8], table: &[u32], found: Option<usize>) -> Filled
-    requires { Sought text.now table.now found }
-    ensures { Fills text.now table.now found result.index result.extra }
+// Fills an empty index with the first 1,024 members of the city objects that were found; other values have none. Gives the node of the name of the
+// 1,025th, if there is one.
+fn fill_index(text: &[u8], table: &[u32], found: Option<usize>, index: &mut Index) -> Option<usize>
+    requires { (Sought text.now table.now found) × (Empty index.old) }
+    ensures { Fills text.now table.now found index.new result }
 {
-    let mut index = Index {
-        offsets: [0; 1024],
-        count: 0,
-    };
     let Some(i) = found else {
-        return Filled { index, extra: None };
+        return None;
     };
     for k in nodes::names(text, table, i) {
         let full = index.count == 1024;
         if full {
-            return Filled {
-                index,
-                extra: Some(k),
-            };
+            return Some(k);
         }
         index.offsets[index.count] = k;
         index.count += 1;
     }
-    Filled { index, extra: None }
+    None
 }
 
 // Rule 9: more than 1,024 city objects, at the name of the 1,025th.
@@ -308,7 +295,11 @@ pub fn root(text: &[u8], table: &[u32], best: u32) -> Walked
     ensures indexed_at { IndexedAt text.now table.now result.index }
 {
     let objects = nodes::member(text, table, 0, b"CityObjects");
-    let Filled { index, extra } = fill_index(text, table, objects);
+    let mut index = Index {
+        offsets: [0; 1024],
+        count: 0,
+    };
+    let extra = fill_index(text, table, objects, &mut index);
     let least = city_json(text, table, objects, extra, best);
     Walked { index, least }
 }
