@@ -31,12 +31,12 @@ pub fn byte(text: &[u8], at: usize) -> Result<u8, BadByte>
     text.get(at).copied().ok_or(BadByte { at })
 }
 
-// Is the byte white space? Most are above it.
+// Is the byte white space? Blanks come first, since a text has more of them than of the other three.
 #[tactic(auto, unfolding(crate::specs::Machine::is_blank))]
 fn is_blank(b: u8) -> bool
     ensures { result ≡ is_blank b }
 {
-    b <= b' ' && matches!(b, b' ' | b'\n' | b'\r' | b'\t')
+    b == b' ' || (b < b' ' && matches!(b, b'\n' | b'\r' | b'\t'))
 }
 
 // Does the byte end an escape of two bytes?
