@@ -22,7 +22,7 @@ use Rattle.json_text.specs.Laws.{over-blank}
 use Rattle.json_text.proofs.Moves.{moves, dies, short, stays-none}
 use Rattle.json_text.proofs.Parts.{string-start, string-run, string-shut}
 use Rattle.scalars.proofs.Leaves.{quoted-of, scalar-string}
-use Rattle.parser.specs.Says.{Fits, Wrote, Quote, Ready, Atom, Colons, Names}
+use Rattle.parser.specs.Says.{Fits, Wrote, Quote, Ready, Atom, Colons, Names, Then}
 use Rattle.parser.specs.declared.Stop.TheVariants.{Bad}
 
 -- three words are written at n
@@ -142,6 +142,15 @@ module _ {x : List ℕ} {at i : ℕ} (k : Skips blanks is_blank x at i) where
             below = w.below;
             above = w.above;
           }
+
+-- a comma is no white space
+pub comma-once : {text : List ℕ} {at : ℕ} → at < length text → get_or text at 0 ≡ 44 → Then text at 44 at
+comma-once {text} {at} h b =
+    record {
+      skips = record { stays = stays-none blanks text at (omega arith); stop = λ l. over-blank (get_or text at 0) (omega arith) };
+      there = h;
+      byte = b;
+    }
 
 -- a quote is no white space
 pub at-quote : {text : List ℕ} {at : ℕ} → at ≤ length text → get_or text at 0 ≡ 34 → Skips blanks is_blank text at at

@@ -109,7 +109,8 @@ fn chain_at(
 }
 
 // Rule 6 in the object at node i, by chains of its names: a name is compared with those of its own chain alone.
-// Nothing is told if a chain is too long.
+// Nothing is told if a chain is too long. Out of line: inlined, its many values put the place of the loop over all nodes on the stack.
+#[inline(never)]
 fn chained_in(text: &[u8], table: &[u32], links: &mut [u32], i: usize, best: u32) -> Option<u32>
     requires { LongObject text.now table.now links.old i }
     ensures { PartTells 1 6 own6 text.now table.now i best result }

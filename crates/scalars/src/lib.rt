@@ -34,7 +34,8 @@ fn some_digits(text: &[u8], at: usize) -> Result<usize, BadByte>
     Ok(skip_digits(text, at + 1))
 }
 
-// An exponent, after its letter.
+// An exponent, after its letter. Few numerals have one, so it stays out of line, and what looks for one is inlined.
+#[inline(never)]
 fn exponent(text: &[u8], at: usize) -> Result<usize, BadByte>
     requires { at ≤ length text.now }
     ensures { Reads text.now exp (numbered text.now) at result }
@@ -47,6 +48,7 @@ fn exponent(text: &[u8], at: usize) -> Result<usize, BadByte>
 }
 
 // An exponent, or none.
+#[inline(always)]
 fn maybe_exponent(text: &[u8], at: usize) -> Result<usize, BadByte>
     requires { at ≤ length text.now }
     ensures { Reads text.now mant (numbered text.now) at result }
@@ -59,6 +61,7 @@ fn maybe_exponent(text: &[u8], at: usize) -> Result<usize, BadByte>
 }
 
 // A fraction and an exponent, or one of them, or none.
+#[inline(always)]
 fn maybe_fraction(text: &[u8], at: usize) -> Result<usize, BadByte>
     requires { at ≤ length text.now }
     ensures { Reads text.now nought (numbered text.now) at result }
