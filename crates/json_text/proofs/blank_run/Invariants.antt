@@ -1,6 +1,6 @@
 use Rattle.std.proofs.Common.{◌-◌, length}
 use Rattle.json_text.specs.Says.{Stays, blanks}
-use Rattle.json_text.proofs.skip_blanks.Given as goal
+use Rattle.json_text.proofs.blank_run.Given as goal
 
 abbrev pub invariant-loop-i : goal.invariant-loop-i
 invariant-loop-i l = Stays blanks l.text l.at l.i
